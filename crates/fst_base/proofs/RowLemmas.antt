@@ -1,8 +1,8 @@
 -- The primitives keep the sorts of their rows.
-use Rattle.std.proofs.Common.{◌≡◌, Bool, true, false, List, [], ◌∷◌, map, refl, sym, ap, ap₂, ◌∙◌, subst}
+use Rattle.std.proofs.Common.{◌≡◌, Bool, true, false, ◌||◌, List, [], ◌∷◌, map, refl, sym, ap, ap₂, ◌∙◌, subst}
 use Rattle.fst_base.specs.declared.op.Op.{Op}
 use Rattle.fst_base.specs.declared.op.Op.TheVariants as op
-use Rattle.fst_base.specs.Sorts.{Srt, s_unit, s_bool, s_int, s_a, s_b, s_pair, s_opt, s_list, s_either, put_sorts}
+use Rattle.fst_base.specs.Sorts.{Srt, s_unit, s_bool, s_int, s_a, s_b, s_pair, s_opt, s_list, s_either, put_sorts, holds_a, holds_b}
 use Rattle.fst_base.specs.Values.{Val, v_unit, v_bool, v_int, v_pair, v_none, v_some, v_nil, v_cons, v_inl, v_inr, Has, HasSorts, default_of}
 use Rattle.fst_base.specs.Primitives.{prim, first, second, fst_of, snd_of, hd_of, tl_of, the_of, outl_of, outr_of}
 use Rattle.fst_base.specs.Rows.{row_args, row_result, is_inner}
@@ -107,3 +107,36 @@ put_sorts-same (s_pair S T) = ap₂ s_pair (put_sorts-same S) (put_sorts-same T)
 put_sorts-same (s_opt S) = ap s_opt (put_sorts-same S)
 put_sorts-same (s_list S) = ap s_list (put_sorts-same S)
 put_sorts-same (s_either S T) = ap₂ s_either (put_sorts-same S) (put_sorts-same T)
+
+or-left : (a b : Bool) → a || b ≡ false → a ≡ false
+or-left true b h = h
+or-left false b h = refl
+
+or-right : (a b : Bool) → a || b ≡ false → b ≡ false
+or-right true true h = h
+or-right true false h = refl
+or-right false b h = h
+
+-- where the variable b is not held, what is put for it is of no account
+pub put_sorts-without_b : (A B C S : Srt) → holds_b S ≡ false → put_sorts A B S ≡ put_sorts A C S
+put_sorts-without_b A B C s_unit h = refl
+put_sorts-without_b A B C s_bool h = refl
+put_sorts-without_b A B C s_int h = refl
+put_sorts-without_b A B C s_a h = refl
+put_sorts-without_b A B C s_b h = cc
+put_sorts-without_b A B C (s_pair S T) h = ap₂ s_pair (put_sorts-without_b A B C S (or-left _ _ h)) (put_sorts-without_b A B C T (or-right _ _ h))
+put_sorts-without_b A B C (s_opt S) h = ap s_opt (put_sorts-without_b A B C S h)
+put_sorts-without_b A B C (s_list S) h = ap s_list (put_sorts-without_b A B C S h)
+put_sorts-without_b A B C (s_either S T) h = ap₂ s_either (put_sorts-without_b A B C S (or-left _ _ h)) (put_sorts-without_b A B C T (or-right _ _ h))
+
+-- a sort without variables stays as it is
+pub put_sorts-closed : (A B S : Srt) → holds_a S ≡ false → holds_b S ≡ false → put_sorts A B S ≡ S
+put_sorts-closed A B s_unit h k = refl
+put_sorts-closed A B s_bool h k = refl
+put_sorts-closed A B s_int h k = refl
+put_sorts-closed A B s_a h k = cc
+put_sorts-closed A B s_b h k = cc
+put_sorts-closed A B (s_pair S T) h k = ap₂ s_pair (put_sorts-closed A B S (or-left _ _ h) (or-left _ _ k)) (put_sorts-closed A B T (or-right _ _ h) (or-right _ _ k))
+put_sorts-closed A B (s_opt S) h k = ap s_opt (put_sorts-closed A B S h k)
+put_sorts-closed A B (s_list S) h k = ap s_list (put_sorts-closed A B S h k)
+put_sorts-closed A B (s_either S T) h k = ap₂ s_either (put_sorts-closed A B S (or-left _ _ h) (or-left _ _ k)) (put_sorts-closed A B T (or-right _ _ h) (or-right _ _ k))
