@@ -135,7 +135,7 @@ module _ (P : Prog) (sorted : IsSorted P) where
 -- ---- functions, ghost parts and whole runs
 
 -- values in turn have sorts in turn
-turned-have : (Ss Ts : List Srt) (vs ws : List Val) → HasSorts Ss vs → HasSorts Ts ws → HasSorts (reverse_aux Ss Ts) (reverse_aux vs ws)
+pub turned-have : (Ss Ts : List Srt) (vs ws : List Val) → HasSorts Ss vs → HasSorts Ts ws → HasSorts (reverse_aux Ss Ts) (reverse_aux vs ws)
 turned-have [] Ts [] ws h k = k
 turned-have [] Ts (v ∷ vs) ws h k = absurd h
 turned-have (S ∷ Ss) Ts [] ws h k = absurd h
