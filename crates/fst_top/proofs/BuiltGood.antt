@@ -7,7 +7,7 @@ use Rattle.fst_base.specs.Values.{Val, v_unit, v_bool, v_int, v_pair, v_none, v_
 use Rattle.fst_base.specs.Primitives.{prim, is_true}
 use Rattle.fst_terms.specs.Terms.{Tm, Tms, t_var, t_int, t_bool, t_unit, t_prim, t_if, t_app, t_let, t_end, t_more, shift, shifts}
 use Rattle.fst_terms.specs.Meaning.{Env, Meaning, value, values, Truth, AllTrue, IsValid, HasVars, Vr}
-use Rattle.fst_terms.specs.Formulas.{negation, put, puts}
+use Rattle.fst_terms.specs.Formulas.{negation, put, puts, vars_from}
 use Rattle.fst_terms.proofs.PutLemmas.{put_values, put-value}
 use Rattle.fst_program.specs.declared.goal.SiteKind.TheVariants as kind
 use Rattle.std.proofs.lemmas.List.{reverse-reverse, length-reverse}
@@ -16,8 +16,9 @@ use Rattle.fst_program.specs.Evaluation.{Got, got, eval, evals, apply, limit}
 use Rattle.fst_program.specs.Runs.{Outcome, Done, Out, spend, then_do, with_value, Run, Calls, Ghosts, text, calls, ghost_run}
 use Rattle.fst_program.specs.declared.goal.SiteKind.{SiteKind}
 use Rattle.fst_program.specs.declared.goal.Choice.TheVariants as choice
-use Rattle.fst_program.specs.Paths.{Gl, Way, count, suppose, suppose_all, choose, raised, all_raised, Division, divisions, all_divisions, Side, sides, over, Rest, CallWalk, term_sites, walk, sequent_of, vars_from, refinements, given, own_vars, own_input, clause_terms, demands_of, start, input_vars, fun_walk, call_walk, goal_site, ensures_site, fun_goals}
-use Rattle.fst_top.specs.Built.{TmBuilt, CmBuilt, ParamsBuilt, FnBuilt, sorts_of}
+use Rattle.fst_program.specs.Paths.{Gl, Way, count, suppose, suppose_all, choose, raised, all_raised, Division, divisions, all_divisions, Side, sides, over, Rest, CallWalk, term_sites, walk, sequent_of, GoalsValid, refinements, given, own_vars, own_input, clause_terms, demands_of, start, input_vars, fun_walk, call_walk, goal_site, ensures_site, fun_goals}
+use Rattle.fst_terms.specs.Propositional.{TmPropositional}
+use Rattle.fst_top.specs.Built.{CmBuilt, ParamsBuilt, FnBuilt, sorts_of}
 use mathlib.Core.List.{reverse_aux}
 use Rattle.fst_program.proofs.SortedRunLemmas.{turned-have}
 use Rattle.fst_program.specs.Good.{HaveAll, HasInput, MayBeBounded, Pre, Post, IfGiven, clause_env, Settles, IsFine, IsOver, GoodAt, Good}
@@ -34,29 +35,17 @@ module _ (M : Meaning) where
   chosen true v w g h p q = p
   chosen false v w g h p q = q
 
-  built-got : (b : Bool) (Ss : List Srt) (t : Tm) (S : Srt) (e : Env) → TmBuilt Ss t S → eval b t e ≡ got (value M t e)
+  built-got : (b : Bool) (Ss : List Srt) (t : Tm) (S : Srt) (e : Env) → TmPropositional Ss t S → eval b t e ≡ got (value M t e)
   built-got b Ss (t_var i) S e h = refl
   built-got b Ss (t_int n) S e h = absurd h
   built-got b Ss (t_bool x) S e h = refl
   built-got b Ss t_unit S e h = refl
   built-got b Ss (t_prim op.Eq T (t_more t (t_more u t_end)) at) S e h =
-      rw (built-got b Ss t h.2.0 e h.2.1.0, built-got b Ss u h.2.0 e h.2.1.1) (equation-got b T at (value M t e) (value M u e))
+      rw (built-got b Ss t h.2.0 e h.2.1.1, built-got b Ss u h.2.0 e h.2.1.2) (equation-got b T at (value M t e) (value M u e))
   built-got b Ss (t_prim o T ts at) S e h = absurd h
   built-got b Ss (t_if c t u) S e h = rw (built-got b Ss c s_bool e h.1) (chosen (is_true (value M c e)) (value M t e) (value M u e) (eval b t e) (eval b u e) (built-got b Ss t s_bool e h.2) (built-got b Ss u s_bool e h.3))
   built-got b Ss (t_app k T ts) S e h = absurd h
   built-got b Ss (t_let x t u) S e h = absurd h
-
--- a built term holds no division
-built-divisions : (Ss : List Srt) (t : Tm) (S : Srt) (cs : List Tm) → TmBuilt Ss t S → divisions cs t ≡ []
-built-divisions Ss (t_var i) S cs h = refl
-built-divisions Ss (t_int n) S cs h = refl
-built-divisions Ss (t_bool x) S cs h = refl
-built-divisions Ss t_unit S cs h = refl
-built-divisions Ss (t_prim op.Eq T (t_more t (t_more u t_end)) at) S cs h = rw (built-divisions Ss t h.2.0 cs h.2.1.0, built-divisions Ss u h.2.0 cs h.2.1.1) refl
-built-divisions Ss (t_prim o T ts at) S cs h = absurd h
-built-divisions Ss (t_if c t u) S cs h = rw (built-divisions Ss c s_bool cs h.1, built-divisions Ss t s_bool (cs ++ c ∷ []) h.2, built-divisions Ss u s_bool (cs ++ negation c ∷ []) h.3) refl
-built-divisions Ss (t_app k T ts) S cs h = absurd h
-built-divisions Ss (t_let x t u) S cs h = refl
 
 -- ---- terms raised by nothing
 
@@ -88,11 +77,6 @@ all-raised-none n w [] e = refl
 all-raised-none n w (t ∷ ts) e = ap₂ ◌∷◌ (raised-none n w t e) (all-raised-none n w ts e)
 
 -- ---- goals
-
--- every goal's sequent is valid
-abbrev pub GoalsValid : Meaning → List Gl → Type 0
-GoalsValid M [] = ⊤
-GoalsValid M (g ∷ gs) = IsValid M g.sequent × GoalsValid M gs
 
 valid-left : (M : Meaning) (gs hs : List Gl) → GoalsValid M (gs ++ hs) → GoalsValid M gs
 valid-left M [] hs h = tt
@@ -168,11 +152,11 @@ module _ (M : Meaning) (P : Prog) (site : SiteKind → (place : ℕ) → Tm → 
   takes-now v F = inr (F, (omega arith, refl))
 
   -- a term's node takes one unit
-  takes-term : (gh : Ghosts) (call : Calls) (b : Bool) (Ss : List Srt) (t : Tm) (S : Srt) (e : Env) (s : Val) → TmBuilt Ss t S → Takes 1 (value M t e) (text M P gh call b (c_ret t) e s)
+  takes-term : (gh : Ghosts) (call : Calls) (b : Bool) (Ss : List Srt) (t : Tm) (S : Srt) (e : Env) (s : Val) → TmPropositional Ss t S → Takes 1 (value M t e) (text M P gh call b (c_ret t) e s)
   takes-term gh call b Ss t S e s h = rw (built-got M b Ss t S e h) (takes-unit 0 (value M t e) (λ l. Done (value M t e) l) (takes-now (value M t e)))
 
   -- an if takes a unit, then what the chosen side takes
-  takes-if : (gh : Ghosts) (call : Calls) (b : Bool) (Ss : List Srt) (t : Tm) (c d : Cm) (e : Env) (s : Val) (x : Bool) (n : ℕ) (r : Val) → TmBuilt Ss t s_bool → is_true (value M t e) ≡ x → Takes n r (text M P gh call b (if x then c else d) e s) → Takes (suc n) r (text M P gh call b (c_if t c d) e s)
+  takes-if : (gh : Ghosts) (call : Calls) (b : Bool) (Ss : List Srt) (t : Tm) (c d : Cm) (e : Env) (s : Val) (x : Bool) (n : ℕ) (r : Val) → TmPropositional Ss t s_bool → is_true (value M t e) ≡ x → Takes n r (text M P gh call b (if x then c else d) e s) → Takes (suc n) r (text M P gh call b (c_if t c d) e s)
   takes-if gh call b Ss t c d e s true n r h q k = rw (built-got M b Ss t s_bool e h, q) (takes-unit n r (text M P gh call b c e s) k)
   takes-if gh call b Ss t c d e s false n r h q k = rw (built-got M b Ss t s_bool e h, q) (takes-unit n r (text M P gh call b d e s) k)
 

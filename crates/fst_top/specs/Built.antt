@@ -1,48 +1,34 @@
 -- The programs that are built so far: PURE functions over bool and unit, without calls.
-use Rattle.std.specs.Prelude.{◌≡◌, ℕ, List, [], ◌∷◌, Option, Some, None, map, reverse, slice_get, ⊤, false}
-use Rattle.fst_base.specs.declared.op.Op.TheVariants as op
-use Rattle.fst_base.specs.Sorts.{Srt, s_unit, s_bool}
-use Rattle.fst_terms.specs.Terms.{Tm, Tms, t_var, t_bool, t_unit, t_prim, t_if, t_end, t_more}
+use Rattle.std.specs.Prelude.{◌≡◌, ℕ, List, [], ◌∷◌, Option, Some, None, map, reverse, ⊤, false}
+use Rattle.fst_base.specs.Sorts.{Srt, s_bool}
+use Rattle.fst_terms.specs.Terms.{Tm}
+use Rattle.fst_terms.specs.Propositional.{SortPropositional, TmPropositional}
 use Rattle.fst_program.specs.declared.effect.Effect.TheVariants as effect
 use Rattle.fst_program.specs.Texts.{Cm, c_ret, c_let, c_if, Prm, Fn, Prog, fun_at}
 
-abbrev pub SortBuilt : Srt → Type 0
-SortBuilt s_bool = ⊤
-SortBuilt s_unit = ⊤
-SortBuilt _ = ⊥
-
--- a variable, a literal, an equation, or an `if` at bool; it has the sort S, where Ss are the sorts of its variables
-abbrev pub TmBuilt : (Ss : List Srt) → Tm → (S : Srt) → Type 0
-TmBuilt Ss (t_var i) S = slice_get Ss i ≡ Some S
-TmBuilt Ss (t_bool b) S = S ≡ s_bool
-TmBuilt Ss t_unit S = S ≡ s_unit
-TmBuilt Ss (t_prim op.Eq T (t_more t (t_more u t_end)) at) S = (S ≡ s_bool) × (T ≡ s_bool) × ((U : Srt) × (TmBuilt Ss t U × TmBuilt Ss u U))
-TmBuilt Ss (t_if c t u) S = (S ≡ s_bool) × TmBuilt Ss c s_bool × TmBuilt Ss t s_bool × TmBuilt Ss u s_bool
-TmBuilt Ss _ S = ⊥
-
 -- a let of a term, an `if`, or a term
 abbrev pub CmBuilt : (Ss : List Srt) → Cm → (S : Srt) → Type 0
-CmBuilt Ss (c_ret t) S = TmBuilt Ss t S
-CmBuilt Ss (c_let x (c_ret t) c) S = (T : Srt) × (TmBuilt Ss t T × CmBuilt (T ∷ Ss) c S)
-CmBuilt Ss (c_if t c d) S = TmBuilt Ss t s_bool × CmBuilt Ss c S × CmBuilt Ss d S
+CmBuilt Ss (c_ret t) S = TmPropositional Ss t S
+CmBuilt Ss (c_let x (c_ret t) c) S = (T : Srt) × (TmPropositional Ss t T × CmBuilt (T ∷ Ss) c S)
+CmBuilt Ss (c_if t c d) S = TmPropositional Ss t s_bool × CmBuilt Ss c S × CmBuilt Ss d S
 CmBuilt Ss _ S = ⊥
 
 -- the parameters have built sorts, and none is a ghost one or has a refinement
 abbrev pub ParamsBuilt : List Prm → Type 0
 ParamsBuilt [] = ⊤
-ParamsBuilt (p ∷ ps) = SortBuilt p.sort × (p.hidden ≡ false) × (p.refine ≡ None) × ParamsBuilt ps
+ParamsBuilt (p ∷ ps) = SortPropositional p.sort × (p.hidden ≡ false) × (p.refine ≡ None) × ParamsBuilt ps
 
 abbrev pub sorts_of : List Prm → List Srt
 sorts_of ps = reverse (map (λ p. p.sort) ps)
 
 abbrev pub ClauseBuilt : (Ss : List Srt) → Option Tm → Type 0
 ClauseBuilt Ss None = ⊤
-ClauseBuilt Ss (Some phi) = TmBuilt Ss phi s_bool
+ClauseBuilt Ss (Some phi) = TmPropositional Ss phi s_bool
 
 pub record FnBuilt (f : Fn) : Type 0 where
   pub pure : f.effect ≡ effect.Pure
   pub params : ParamsBuilt f.params
-  pub sort : SortBuilt f.sort
+  pub sort : SortPropositional f.sort
   pub needs : ClauseBuilt (sorts_of f.params) f.needs
   pub gives : ClauseBuilt (f.sort ∷ sorts_of f.params) f.gives
   pub measures : f.measures ≡ []
