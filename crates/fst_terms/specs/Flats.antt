@@ -42,13 +42,18 @@ abbrev mutual
 
 -- ---- the skeleton of a formula
 
--- the atoms of a formula from left to right: an `if` and an equation of bools are read through, an equation of units is true; Ss are
--- the sorts of the variables
+-- the atoms of an equation of terms of this sort: none of units, those of both sides of bools, else the equation itself
+abbrev pub equation_atoms : Srt → (both : List Tm) → (equation : Tm) → List Tm
+equation_atoms s_unit both t = []
+equation_atoms s_bool both t = both
+equation_atoms _ both t = t ∷ []
+
+-- the atoms of a formula from left to right: an `if` is read through; Ss are the sorts of the variables
 abbrev pub atoms_in : (Ss : List Srt) → Tm → List Tm
 atoms_in Ss (t_bool b) = []
 atoms_in Ss (t_if c t u) = atoms_in Ss c ++ atoms_in Ss t ++ atoms_in Ss u
 atoms_in Ss (t_prim op.Eq S (t_more t (t_more u t_end)) at) =
-    elim (sort_of Ss t) [ s_unit ↦ [] | s_bool ↦ atoms_in Ss t ++ atoms_in Ss u | _ ↦ t_prim op.Eq S (t_more t (t_more u t_end)) at ∷ [] ]
+    equation_atoms (sort_of Ss t) (atoms_in Ss t ++ atoms_in Ss u) (t_prim op.Eq S (t_more t (t_more u t_end)) at)
 atoms_in Ss t = t ∷ []
 
 abbrev pub all_atoms_in : (Ss : List Srt) → List Tm → List Tm
@@ -98,7 +103,7 @@ truth_of _ = false
 abbrev pub mark_of : (atoms : List Tm) → List Mark → Tm → Option Bool
 mark_of [] ms t = None
 mark_of (u ∷ us) [] t = None
-mark_of (u ∷ us) (m ∷ ms) t = if same_term u t then Some (truth_of m) else mark_of us ms t
+mark_of (u ∷ us) (m ∷ ms) t = if same_term t u then Some (truth_of m) else mark_of us ms t
 
 -- a side where the condition has a value, and else the value that both sides have
 abbrev pub common : Option Bool → Option Bool → Option Bool
@@ -115,12 +120,18 @@ abbrev pub agree : Option Bool → Option Bool → Option Bool
 agree (Some a) (Some b) = Some (same_bool a b)
 agree _ _ = None
 
+-- an equation of units is true, one of bools has a value where both sides have one, and another one is an atom
+abbrev pub equation_reading : Srt → (both atom : Option Bool) → Option Bool
+equation_reading s_unit both atom = Some true
+equation_reading s_bool both atom = both
+equation_reading _ both atom = atom
+
 -- the value of a formula under marks, where it has one
 abbrev pub reading : (Ss : List Srt) → (look : Tm → Option Bool) → Tm → Option Bool
 reading Ss look (t_bool b) = Some b
 reading Ss look (t_if c t u) = chosen (reading Ss look c) (reading Ss look t) (reading Ss look u)
 reading Ss look (t_prim op.Eq S (t_more t (t_more u t_end)) at) =
-    elim (sort_of Ss t) [ s_unit ↦ Some true | s_bool ↦ agree (reading Ss look t) (reading Ss look u) | _ ↦ look (t_prim op.Eq S (t_more t (t_more u t_end)) at) ]
+    equation_reading (sort_of Ss t) (agree (reading Ss look t) (reading Ss look u)) (look (t_prim op.Eq S (t_more t (t_more u t_end)) at))
 reading Ss look t = look t
 
 -- the value of a formula of the flat form under marks of its first atoms
@@ -129,10 +140,10 @@ reads f ms t = reading (sorts_of_vars f.vars) (mark_of f.atoms ms) t
 
 -- ---- branches
 
--- the atom has the mark
-pub data Marked : List Tm → List Mark → Tm → Mark → Type 0 where
-  marked_first : {t : Tm} {ts : List Tm} {m : Mark} {ms : List Mark} → Marked (t ∷ ts) (m ∷ ms) t m
-  marked_later : {t u : Tm} {ts : List Tm} {m n : Mark} {ms : List Mark} → Marked ts ms t m → Marked (u ∷ ts) (n ∷ ms) t m
+-- the term is one of the atoms, and has the mark
+abbrev pub Marked : (atoms : List Tm) → List Mark → Tm → Mark → Type 0
+Marked (u ∷ us) (m ∷ ms) t n = ((t ≡ u) × (n ≡ m)) ⊎ Marked us ms t n
+Marked _ _ t n = ⊥
 
 -- the least congruence that holds the truth values of the marked atoms and the equations of unit terms with (); no numbered term of
 -- these sorts has parts
@@ -140,7 +151,7 @@ pub data Joined : Flt → List Mark → Tm → Tm → Type 0 where
   joined_same : {f : Flt} {ms : List Mark} {t : Tm} → Joined f ms t t
   joined_flip : {f : Flt} {ms : List Mark} {t u : Tm} → Joined f ms t u → Joined f ms u t
   joined_chain : {f : Flt} {ms : List Mark} {t u v : Tm} → Joined f ms t u → Joined f ms u v → Joined f ms t v
-  joined_atom : {f : Flt} {ms : List Mark} {t : Tm} {m : Mark} → Marked f.atoms ms t m → Joined f ms t (t_bool (truth_of m))
+  joined_atom : {f : Flt} {ms : List Mark} {t : Tm} → (m : Mark) → Marked f.atoms ms t m → Joined f ms t (t_bool (truth_of m))
   joined_unit : {f : Flt} {ms : List Mark} {t : Tm} → IsTrue (is_among t f.terms) → sort_of (sorts_of_vars f.vars) t ≡ s_unit → Joined f ms t t_unit
 
 -- two different constructors are joined: true and false
