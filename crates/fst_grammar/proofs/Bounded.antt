@@ -4,7 +4,7 @@ use Rattle.std.proofs.lemmas.Bool.{lt-ltb}
 use Rattle.std.proofs.Math.Nat.{mul-le-mul_left}
 use borrow.Author.Tests.{ltb-true}
 use Rattle.fst_grammar.specs.Alphabet.{Alphabet, Sound, next, has}
-use Rattle.fst_grammar.specs.Grammar.{Code, El, Rule, tree, token, empty, seq, alt, act, call, Derives, d_token, d_empty, d_seq, d_left, d_right, d_act, d_call}
+use Rattle.fst_grammar.specs.Grammar.{Code, El, Rule, tree, token, mark, empty, seq, alt, act, call, Derives, d_token, d_mark, d_empty, d_seq, d_left, d_right, d_act, d_call}
 use Rattle.fst_grammar.specs.Reading.{Outcome, ◌>>=◌, first, run, at, read_by, may_be_empty}
 use Rattle.fst_grammar.specs.Conditions.{below}
 use Rattle.fst_grammar.proofs.KindSets.{both_true, either_true, not_true}
@@ -46,6 +46,7 @@ module _ (K : Alphabet) (D : Sound K) where
 
     shorter : {c : Code K N T} {r : Rule K N T c} {a : El K N T c} {ts ks : List K.Token} → Derives K N T rule c r a ts ks → Shorter (E r) ts ks
     shorter (d_token {ts = ts} e) = record { least = omega arith; less = λ h. omega arith }
+    shorter (d_mark {ts = ts} e) = record { least = omega arith; less = λ h. omega arith }
     shorter d_empty = record { least = omega arith; less = λ h. absurd (cc) }
     shorter (d_seq {r = r} {q = q} {ts = ts} {ms = ms} {ks = ks} x y) = shorter_seq (E r) (E q) ts ms ks (shorter x) (shorter y)
     shorter (d_left {r = r} {q = q} {ts = ts} {ks = ks} x) = let s = shorter x in record { least = s.least; less = λ h. s.less (left_false (E r) (E q) h) }
@@ -74,6 +75,7 @@ module _ (K : Alphabet) (D : Sound K) where
 
       below_top : {c : Code K N T} (r : Rule K N T c) → B top r ≡ true
       below_top (token k) = refl
+      below_top (mark k) = refl
       below_top empty = refl
       below_top (seq r q) = and_true _ _ (below_top r) (or_right (not (E r)) _ (below_top q))
       below_top (alt r q) = and_true _ _ (below_top r) (below_top q)
@@ -103,6 +105,7 @@ module _ (K : Alphabet) (D : Sound K) where
 
         same_run : {c : Code K N T} (r : Rule K N T c) (ts : List K.Token) (m : ℕ) → m ≤ top → top * length ts + m ≤ b → B m r ≡ true → go f r ts ≡ to r ts
         same_run (token k) ts m l h e = refl
+        same_run (mark k) ts m l h e = refl
         same_run empty ts m l h e = refl
         same_run (seq {c = c} {d = d} r q) ts m l h e = let p = both_true (B m r) (not (E r) || B m q) e in
             seq_same r q ts m l h p.1 (same_run q) (go f r ts) (law K D N T rule firsts nullable sample (at_depth f) (law_at f) r ts)

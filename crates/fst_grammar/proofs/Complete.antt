@@ -1,7 +1,7 @@
 -- What has a derivation is read.
 use Rattle.std.proofs.Common.{◌≡◌, Bool, true, false, not, ◌||◌, ◌&&◌, List, ◌∷◌, ◌++◌, refl, sym, ◌∙◌, ap, subst, ◌⊎◌, inl, inr, Ok, if◌then◌else◌}
 use Rattle.fst_grammar.specs.Alphabet.{Alphabet, Sound, next, has, within, apart}
-use Rattle.fst_grammar.specs.Grammar.{Code, El, Rule, tree, Derives, d_token, d_empty, d_seq, d_left, d_right, d_act, d_call}
+use Rattle.fst_grammar.specs.Grammar.{Code, El, Rule, tree, Derives, d_token, d_mark, d_empty, d_seq, d_left, d_right, d_act, d_call}
 use Rattle.fst_grammar.specs.Reading.{Outcome, expect, may_be_empty, first, run}
 use Rattle.fst_grammar.specs.Conditions.{starts, settles, is_good}
 use Rattle.fst_grammar.proofs.KindSets.{both_true, has_left, has_right, has_within, has_apart}
@@ -89,6 +89,7 @@ module _ (K : Alphabet) (D : Sound K) where
     begins : {c : Code K N T} {r : Rule K N T c} {a : El K N T c} {ts ks : List K.Token} → Derives K N T rule c r a ts ks
         → (has K (F r) (next K ts) ≡ true) ⊎ ((E r ≡ true) × (ts ≡ ks))
     begins (d_token {k = k} {t = t} e) = inl (either_left (K.same (K.kind t) k) false (subst (λ j. K.same j k ≡ true) (sym e) (D.reflexive k)))
+    begins (d_mark {k = k} {t = t} e) = inl (either_left (K.same (K.kind t) k) false (subst (λ j. K.same j k ≡ true) (sym e) (D.reflexive k)))
     begins d_empty = inr (refl, refl)
     begins (d_seq {r = r} {q = q} {ts = ts} {ms = ms} {ks = ks} x y) = begins_seq (E r) (E q) (F r) (F q) ts ms ks (begins x) (begins y)
     begins (d_left {r = r} {q = q} {ts = ts} x) = elim (begins x) [ inl h ↦ inl (has_left K (F r) (F q) (next K ts) h) | inr e ↦ inr (either_left (E r) (E q) e.0, e.1) ]
@@ -104,6 +105,7 @@ module _ (K : Alphabet) (D : Sound K) where
       pub again : {c : Code K N T} {r : Rule K N T c} {a : El K N T c} {ts ks : List K.Token} (fs : List K.Kind) → Derives K N T rule c r a ts ks
           → S fs r ≡ true → has K fs (next K ks) ≡ true → run K N T firsts nullable read r ts ≡ Ok (a, ks)
       again fs (d_token {k = k} {t = t} {ts = ts} e) s h = expect_it k t ts e
+      again fs (d_mark {k = k} {t = t} {ts = ts} e) s h = rw (expect_it k t ts e) refl
       again fs d_empty s h = refl
       again fs (d_seq {r = r} {q = q} {a = a} {b = b} {ts = ts} {ms = ms} {ks = ks} x y) s h =
           let qs = starts K N T firsts nullable fs q in

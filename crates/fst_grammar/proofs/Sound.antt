@@ -2,7 +2,7 @@
 use Rattle.std.proofs.Common.{◌≡◌, Bool, true, false, List, [], ◌∷◌, ◌++◌, refl, sym, ◌∙◌, ap, subst, append_assoc, Ok, Err, if◌then◌else◌}
 use Rattle.std.proofs.lemmas.List.{map-append}
 use Rattle.fst_grammar.specs.Alphabet.{Alphabet, Sound, Like, next, examples, has}
-use Rattle.fst_grammar.specs.Grammar.{Code, El, Rule, pair, tree, token, empty, seq, alt, act, call, Derives, d_token, d_empty, d_seq, d_left, d_right, d_act}
+use Rattle.fst_grammar.specs.Grammar.{Code, El, Rule, pair, tree, token, mark, empty, seq, alt, act, call, Derives, d_token, d_mark, d_empty, d_seq, d_left, d_right, d_act}
 use Rattle.fst_grammar.specs.Reading.{Outcome, ◌>>=◌, expect, first, run}
 
 abbrev pub rest : {Tok A : Type 0} → Outcome Tok A → List Tok
@@ -59,6 +59,7 @@ module _ (K : Alphabet) where
       module _ (sample : (n : N) → Sample (call n)) where
         pub example : {c : Code K N T} (r : Rule K N T c) → Sample r
         example (token k) = (K.example k, (k ∷ [], λ ks. d_token (D.exemplary k)))
+        example (mark k) = (K.place (K.example k), (k ∷ [], λ ks. d_mark (D.exemplary k)))
         example empty = (tt, ([], λ ks. d_empty))
         example (seq r q) = let x = example r in let y = example q in
             ((x.0, y.0), (x.1.0 ++ y.1.0, λ ks. subst (λ us. Derives K N T rule _ (seq r q) (x.0, y.0) us ks) (sym (examples_append x.1.0 y.1.0 ks)) (d_seq (x.1.1 (examples K y.1.0 ++ ks)) (y.1.1 ks))))
@@ -77,6 +78,14 @@ module _ (K : Alphabet) where
           token_law : (k : K.Kind) (ts : List K.Token) → Law (token k) (go (token k)) ts (go (token k) ts)
           token_law k [] = record { is = refl; front = []; split = refl; local = no_token k; means = example (token k) }
           token_law k (t ∷ ts) = token_at k t ts (K.same (K.kind t) k) refl
+
+          mark_at : (k : K.Kind) (t : K.Token) (ts : List K.Token) (b : Bool) → K.same (K.kind t) k ≡ b → Law (mark k) (go (mark k)) (t ∷ ts) (◌>>=◌ {A = K.Token} {B = K.Place} (if b then Ok (t, ts) else Err (t ∷ ts)) (λ u ks. Ok (K.place u, ks)))
+          mark_at k t ts true e = record { is = rw e refl; front = t ∷ []; split = refl; local = λ ks l. rw e refl; means = λ ks. d_mark (D.equal (K.kind t) k e) }
+          mark_at k t ts false e = record { is = rw e refl; front = []; split = refl; local = λ ks l. let d = no_match k t ts e ks l in rw d refl; means = example (mark k) }
+
+          mark_law : (k : K.Kind) (ts : List K.Token) → Law (mark k) (go (mark k)) ts (go (mark k) ts)
+          mark_law k [] = record { is = refl; front = []; split = refl; local = λ ks l. let d = no_token k ks l in rw d refl; means = example (mark k) }
+          mark_law k (t ∷ ts) = mark_at k t ts (K.same (K.kind t) k) refl
 
           seq_ok : {c d : Code K N T} (r : Rule K N T c) (q : Rule K N T d) (ts : List K.Token) (p : El K N T c × List K.Token) → Law r (go r) ts (Ok p)
               → (o : Outcome K.Token (El K N T d)) → Law q (go q) p.1 o → Law (seq r q) (go (seq r q)) ts (o >>= λ b ks. Ok ((p.0, b), ks))
@@ -158,6 +167,7 @@ module _ (K : Alphabet) where
 
           pub law : {c : Code K N T} (r : Rule K N T c) (ts : List K.Token) → Law r (go r) ts (go r ts)
           law (token k) ts = token_law k ts
+          law (mark k) ts = mark_law k ts
           law empty ts = record { is = refl; front = []; split = refl; local = λ ks l. refl; means = λ ks. d_empty }
           law (seq r q) ts = seq_law r q ts (go r ts) (law r ts) (law q)
           law (alt r q) ts = alt_law r q ts (has K (first K N T firsts nullable r) (next K ts)) refl (law r ts) (law q ts)

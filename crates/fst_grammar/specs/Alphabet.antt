@@ -1,14 +1,16 @@
 -- Tokens, their kinds, and lists of kinds as sets.
 use Rattle.std.specs.Prelude.{◌≡◌, Bool, true, false, not, ◌||◌, ◌&&◌, List, [], ◌∷◌, map}
 
--- Kinds with a test of equality, and tokens, each of a kind. `End` stands for the end of the tokens. `example` is a token
--- of each kind.
+-- Kinds with a test of equality, and tokens, each of a kind and at a place. `End` stands for the end of the tokens.
+-- `example` is a token of each kind.
 pub record Alphabet : Type 1 where
   pub Kind : Type 0
   pub Token : Type 0
+  pub Place : Type 0
   pub same : Kind → Kind → Bool
   pub End : Kind
   pub kind : Token → Kind
+  pub place : Token → Place
   pub example : Kind → Token
 
 -- The test decides equality, and the examples are of their kinds.

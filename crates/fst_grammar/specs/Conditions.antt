@@ -1,7 +1,7 @@
 -- The conditions under which the next token settles each choice.
 use Rattle.std.specs.Prelude.{◌≡◌, ◌<◌, ℕ, nat_lt, Bool, true, false, not, ◌||◌, ◌&&◌, if◌then◌else◌, List, ◌++◌}
 use Rattle.fst_grammar.specs.Alphabet.{Alphabet, within, apart}
-use Rattle.fst_grammar.specs.Grammar.{Code, Rule, tree, token, empty, seq, alt, act, call}
+use Rattle.fst_grammar.specs.Grammar.{Code, Rule, tree, token, mark, empty, seq, alt, act, call}
 use Rattle.fst_grammar.specs.Reading.{may_be_empty, first}
 
 module _ (K : Alphabet) (N : Type 0) (T : N → Type 0) (firsts : N → List K.Kind) (nullable : N → Bool) where
@@ -9,6 +9,7 @@ module _ (K : Alphabet) (N : Type 0) (T : N → Type 0) (firsts : N → List K.K
   module _ (rank : N → ℕ) where
     abbrev pub below : {c : Code K N T} → ℕ → Rule K N T c → Bool
     below m (token k) = true
+    below m (mark k) = true
     below m empty = true
     below m (seq r q) = below m r && (not (may_be_empty K N T firsts nullable r) || below m q)
     below m (alt r q) = below m r && below m q
@@ -23,6 +24,7 @@ module _ (K : Alphabet) (N : Type 0) (T : N → Type 0) (firsts : N → List K.K
     -- the next token settles each choice in a right side, where one of fs follows it
     abbrev pub settles : {c : Code K N T} → List K.Kind → Rule K N T c → Bool
     settles fs (token k) = true
+    settles fs (mark k) = true
     settles fs empty = true
     settles fs (seq r q) = settles (starts fs q) r && settles fs q
     settles fs (alt r q) = not (may_be_empty K N T firsts nullable r) && apart K (first K N T firsts nullable r) (starts fs q) && settles fs r && settles fs q

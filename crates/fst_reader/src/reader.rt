@@ -1,0 +1,77 @@
+//! The tokens that are left to be read.
+
+ghost use Rattle.std.specs.Prelude.{◌≡◌, ◌<◌, ◌≤◌, false, length, OnOk, IfSome};
+ghost use Rattle.fst_grammar.specs.Alphabet.{next};
+ghost use Rattle.fst_grammar.specs.Reading.{expect};
+ghost use Rattle.fst_reader.specs.Tokens.{alphabet};
+ghost use Rattle.fst_reader.specs.Answers.{Reads};
+
+use crate::lexeme::Lexeme;
+use crate::terminal::Terminal;
+use fst_base::OutOfMemory;
+use std::alloc::Global;
+use std::marker::Model;
+
+/// Why a reading function stops: at the first token that is left, or for want of memory.
+#[derive(Clone, Copy, Debug, PartialEq, Eq)]
+pub enum Stop {
+    Syntax,
+    NoMemory,
+}
+
+impl From<OutOfMemory> for Stop {
+    ghost use Rattle.std.specs.Prelude.{◌≡◌};
+    ghost use Rattle.fst_reader.specs.declared.reader.Stop.TheVariants.{NoMemory};
+
+    ghost from_gives = { λ _ e. e ≡ NoMemory };
+
+    fn from(_: OutOfMemory) -> Stop {
+        Stop::NoMemory
+    }
+}
+
+/// The tokens that are left.
+#[derive(Drop)]
+pub struct Reader<'a> {
+    rest: &'a [Lexeme<'a>],
+    alloc: Global,
+}
+
+impl<'a> Model for Reader<'a> {
+    ghost use Rattle.std.specs.Prelude.{List, map};
+    ghost use Rattle.fst_reader.specs.Tokens.{Token, token_of};
+
+    ghost Value = { List Token };
+
+    ghost view = { λ r. map token_of r.rest.now };
+}
+
+impl<'a> Reader<'a> {
+    /// The terminal of the next token.
+    pub fn peek(&self) -> Terminal
+        ensures { result ≡ next alphabet self.now }
+    {
+        match self.rest {
+            [token, ..] => token.terminal,
+            [] => Terminal::End,
+        }
+    }
+
+    /// Takes a token of this terminal.
+    pub fn expect(&mut self, terminal: Terminal) -> Result<Lexeme<'a>, Stop>
+        ensures reads { Reads (expect alphabet terminal self.old) result self.new }
+        ensures shorter { OnOk result (length self.new < length self.old) }
+    {
+        match self.rest {
+            [token, rest @ ..] => {
+                if token.terminal == terminal {
+                    self.rest = rest;
+                    Ok(*token)
+                } else {
+                    Err(Stop::Syntax)
+                }
+            }
+            [] => Err(Stop::Syntax),
+        }
+    }
+}
