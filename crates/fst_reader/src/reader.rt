@@ -2,13 +2,13 @@
 
 ghost use Rattle.std.specs.Prelude.{◌≡◌, ◌<◌, ◌≤◌, false, length, OnOk, IfSome};
 ghost use Rattle.fst_grammar.specs.Alphabet.{next};
-ghost use Rattle.fst_grammar.specs.Reading.{expect};
+ghost use Rattle.fst_reader.specs.Answers.{place_at};
 ghost use Rattle.fst_reader.specs.Tokens.{alphabet};
 ghost use Rattle.fst_reader.specs.Answers.{Reads};
 
 use crate::lexeme::Lexeme;
 use crate::terminal::Terminal;
-use fst_base::OutOfMemory;
+use fst_base::{OutOfMemory, Pos};
 use std::alloc::Global;
 use std::marker::Model;
 
@@ -57,16 +57,16 @@ impl<'a> Reader<'a> {
         }
     }
 
-    /// Takes a token of this terminal.
-    pub fn expect(&mut self, terminal: Terminal) -> Result<Lexeme<'a>, Stop>
-        ensures reads { Reads (expect alphabet terminal self.old) result self.new }
+    /// Takes a token of this terminal; its place.
+    pub fn expect(&mut self, terminal: Terminal) -> Result<Pos, Stop>
+        ensures reads { Reads (place_at terminal self.old) result self.new }
         ensures shorter { OnOk result (length self.new < length self.old) }
     {
         match self.rest {
             [token, rest @ ..] => {
                 if token.terminal == terminal {
                     self.rest = rest;
-                    Ok(*token)
+                    Ok(Pos { at: token.at })
                 } else {
                     Err(Stop::Syntax)
                 }

@@ -1,0 +1,25 @@
+use fst_base::{Op, Pos};
+
+/// An operator at its place.
+#[derive(Clone, Copy, Debug)]
+pub struct Operator {
+    pub op: Op,
+    pub at: Pos,
+}
+
+#[derive(Clone, Copy, Debug, PartialEq, Eq)]
+pub enum Relation {
+    Equal,
+    NotEqual,
+    LessEqual,
+    Less,
+    GreaterEqual,
+    Greater,
+}
+
+/// A comparison at its place.
+#[derive(Clone, Copy, Debug)]
+pub struct Comparison {
+    pub relation: Relation,
+    pub at: Pos,
+}
