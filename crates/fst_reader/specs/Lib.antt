@@ -1,3 +1,4 @@
 pub mod Tokens
 pub mod Trees
+pub mod Productions
 pub mod Answers

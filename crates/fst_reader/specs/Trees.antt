@@ -1,6 +1,6 @@
 -- The trees that the productions give. What is written in short is written out, at the place of its operator, its word or
 -- its bracket.
-use Rattle.std.specs.Prelude.{ℕ, ◌*◌, ◌+◌, ◌-◌, ◌^◌, min, Bool, true, false, List, [], ◌∷◌, fold, Option, Some, None, unwrap_or, ℤ, pos, neg_ℤ}
+use Rattle.std.specs.Prelude.{ℕ, ◌*◌, ◌+◌, ◌-◌, ◌^◌, min, Bool, true, false, List, [], ◌∷◌, fold, Option, Some, None, codes, ℤ, pos, neg_ℤ}
 use Rattle.fst_base.specs.declared.op.Op.{Op}
 use Rattle.fst_base.specs.declared.op.Op.TheVariants as op
 use Rattle.fst_base.specs.declared.place.Pos.{Pos}
@@ -57,6 +57,19 @@ choice p a b c = node p (f.If a b c)
 
 abbrev pub applied : Word → List Tree → Tree
 applied w args = node w.at (f.App w args)
+
+abbrev pub let_in : Pos → Word → Tree → Tree → Tree
+let_in p w a b = node p (f.Let w a b)
+
+-- a reserved word that is used as a name
+abbrev pub the_word : List ℕ → Pos → Word
+the_word text p = record { text = text; at = p }
+
+abbrev pub result_text : List ℕ
+result_text = codes "result"
+
+abbrev pub input_text : List ℕ
+input_text = codes "input"
 
 abbrev pub negation : Pos → Tree → Tree
 negation p a = choice p a (truth false p) (truth true p)

@@ -23,3 +23,10 @@ pub struct Comparison {
     pub relation: Relation,
     pub at: Pos,
 }
+
+/// A number at its place; a magnitude past 128 bits stands at 2^127.
+#[derive(Clone, Copy, Debug)]
+pub struct Digits {
+    pub at: Pos,
+    pub magnitude: u128,
+}
