@@ -8,7 +8,7 @@ use Rattle.fst_grammar.specs.Grammar.{Code, El, Rule, tree, token, mark, empty, 
 use Rattle.fst_grammar.specs.Reading.{Outcome, ◌>>=◌, first, run, at, read_by, may_be_empty}
 use Rattle.fst_grammar.specs.Conditions.{below}
 use Rattle.fst_grammar.proofs.KindSets.{both_true, either_true, not_true}
-use Rattle.fst_grammar.proofs.Sound.{Sample, Means, Law, law}
+use Rattle.fst_grammar.proofs.Sound.{Sample, Means, Law, ahead, law}
 
 and_true : (a b : Bool) → a ≡ true → b ≡ true → a && b ≡ true
 and_true a b e h = rw (e, h) refl
@@ -65,7 +65,7 @@ module _ (K : Alphabet) (D : Sound K) where
     called n front (Err _) m = (m.0, (m.1.0, λ ks. d_call (m.1.1 ks)))
 
     pub law_at : (f : ℕ) (n : N) (ts : List K.Token) → Law K D N T rule firsts nullable (call n) (at_depth f n) ts (at_depth f n ts)
-    law_at zero n ts = record { is = refl; front = []; split = refl; local = λ ks l. refl; means = sample n }
+    law_at zero n ts = record { is = refl; front = []; split = refl; local = λ ks l. refl; means = ahead K D N T rule firsts nullable (sample n) ts }
     law_at (suc f) n ts = let x = law K D N T rule firsts nullable sample (at_depth f) (law_at f) (rule n) ts in
         record { is = refl; front = x.front; split = x.split; local = x.local; means = called n x.front (at_depth (suc f) n ts) x.means }
 

@@ -2,7 +2,7 @@
 use Rattle.std.proofs.Common.{◌≡◌, Bool, true, false, List, [], ◌∷◌, ◌++◌, refl, sym, ◌∙◌, ap, subst, append_assoc, Ok, Err, if◌then◌else◌}
 use Rattle.std.proofs.lemmas.List.{map-append}
 use Rattle.fst_grammar.specs.Alphabet.{Alphabet, Sound, Like, next, examples, has}
-use Rattle.fst_grammar.specs.Grammar.{Code, El, Rule, pair, tree, token, mark, empty, seq, alt, act, call, Derives, d_token, d_mark, d_empty, d_seq, d_left, d_right, d_act}
+use Rattle.fst_grammar.specs.Grammar.{Code, El, Rule, pair, tree, token, mark, empty, seq, alt, act, call, Derives, d_token, d_mark, d_empty, d_seq, d_left, d_right, d_act, d_call}
 use Rattle.fst_grammar.specs.Reading.{Outcome, ◌>>=◌, expect, first, run}
 
 abbrev pub rest : {Tok A : Type 0} → Outcome Tok A → List Tok
@@ -42,8 +42,10 @@ module _ (K : Alphabet) where
 
     module _ (N : Type 0) (T : N → Type 0) (rule : (n : N) → Rule K N T (tree n)) (firsts : N → List K.Kind) (nullable : N → Bool) where
       -- a list of kinds whose examples have a derivation by a right side
-      abbrev pub Sample : {c : Code K N T} → Rule K N T c → Type 0
-      Sample {c = c} r = (a : El K N T c) × ((z : List K.Kind) × ((ks : List K.Token) → Derives K N T rule c r a (examples K z ++ ks) ks))
+      pub record Sample {c : Code K N T} (r : Rule K N T c) : Type 0 where
+        pub tree : El K N T c
+        pub kinds : List K.Kind
+        pub spelled : (ks : List K.Token) → Derives K N T rule c r tree (examples K kinds ++ ks) ks
 
       abbrev pub Means : {c : Code K N T} → Rule K N T c → List K.Token → Outcome K.Token (El K N T c) → Type 0
       Means {c = c} r front (Ok p) = (ks : List K.Token) → Derives K N T rule c r p.0 (front ++ ks) ks
@@ -56,15 +58,48 @@ module _ (K : Alphabet) where
         pub local : (ks : List K.Token) → Like (rest o) ks → p (front ++ ks) ≡ with_rest ks o
         pub means : Means r front o
 
+      -- samples of right sides, from samples of their parts
+      pub one_token : {k : K.Kind} → Sample (token k)
+      one_token {k = k} = record { tree = K.example k; kinds = k ∷ []; spelled = λ ks. d_token (D.exemplary k) }
+
+      pub one : {k : K.Kind} → Sample (mark k)
+      one {k = k} = record { tree = K.place (K.example k); kinds = k ∷ []; spelled = λ ks. d_mark (D.exemplary k) }
+
+      pub none : Sample empty
+      none = record { tree = tt; kinds = []; spelled = λ ks. d_empty }
+
+      pub both : {c d : Code K N T} {r : Rule K N T c} {q : Rule K N T d} → Sample r → Sample q → Sample (seq r q)
+      both {c = c} {d = d} {r = r} {q = q} x y = record {
+        tree = (x.tree, y.tree);
+        kinds = x.kinds ++ y.kinds;
+        spelled = λ ks.
+            subst (λ us. Derives K N T rule (pair c d) (seq r q) (x.tree, y.tree) us ks) (sym (examples_append x.kinds y.kinds ks)) (d_seq (x.spelled (examples K y.kinds ++ ks)) (y.spelled ks));
+      }
+
+      pub left : {c : Code K N T} {r q : Rule K N T c} → Sample r → Sample (alt r q)
+      left x = record { tree = x.tree; kinds = x.kinds; spelled = λ ks. d_left (x.spelled ks) }
+
+      pub right : {c : Code K N T} {r q : Rule K N T c} → Sample q → Sample (alt r q)
+      right x = record { tree = x.tree; kinds = x.kinds; spelled = λ ks. d_right (x.spelled ks) }
+
+      pub made : {c d : Code K N T} {f : El K N T c → El K N T d} {r : Rule K N T c} → Sample r → Sample (act f r)
+      made {f = f} x = record { tree = f x.tree; kinds = x.kinds; spelled = λ ks. d_act (x.spelled ks) }
+
+      pub called : {n : N} → Sample (rule n) → Sample (call n)
+      called x = record { tree = x.tree; kinds = x.kinds; spelled = λ ks. d_call (x.spelled ks) }
+
+      -- what an outcome that fails at its first token means
+      pub ahead : {c : Code K N T} {r : Rule K N T c} → Sample r → (ts : List K.Token) → Means r [] (Err ts)
+      ahead x ts = (x.tree, (x.kinds, x.spelled))
+
       module _ (sample : (n : N) → Sample (call n)) where
         pub example : {c : Code K N T} (r : Rule K N T c) → Sample r
-        example (token k) = (K.example k, (k ∷ [], λ ks. d_token (D.exemplary k)))
-        example (mark k) = (K.place (K.example k), (k ∷ [], λ ks. d_mark (D.exemplary k)))
-        example empty = (tt, ([], λ ks. d_empty))
-        example (seq r q) = let x = example r in let y = example q in
-            ((x.0, y.0), (x.1.0 ++ y.1.0, λ ks. subst (λ us. Derives K N T rule _ (seq r q) (x.0, y.0) us ks) (sym (examples_append x.1.0 y.1.0 ks)) (d_seq (x.1.1 (examples K y.1.0 ++ ks)) (y.1.1 ks))))
-        example (alt r q) = let x = example r in (x.0, (x.1.0, λ ks. d_left (x.1.1 ks)))
-        example (act f r) = let x = example r in (f x.0, (x.1.0, λ ks. d_act (x.1.1 ks)))
+        example (token k) = one_token
+        example (mark k) = one
+        example empty = none
+        example (seq r q) = both (example r) (example q)
+        example (alt r q) = left (example r)
+        example (act f r) = made (example r)
         example (call n) = sample n
 
         module _ (env : (n : N) → List K.Token → Outcome K.Token (T n)) (laws : (n : N) (ts : List K.Token) → Law (call n) (env n) ts (env n ts)) where
@@ -73,18 +108,18 @@ module _ (K : Alphabet) where
 
           token_at : (k : K.Kind) (t : K.Token) (ts : List K.Token) (b : Bool) → K.same (K.kind t) k ≡ b → Law (token k) (go (token k)) (t ∷ ts) (if b then Ok (t, ts) else Err (t ∷ ts))
           token_at k t ts true e = record { is = rw e refl; front = t ∷ []; split = refl; local = λ ks l. rw e refl; means = λ ks. d_token (D.equal (K.kind t) k e) }
-          token_at k t ts false e = record { is = rw e refl; front = []; split = refl; local = no_match k t ts e; means = example (token k) }
+          token_at k t ts false e = record { is = rw e refl; front = []; split = refl; local = no_match k t ts e; means = ahead (example (token k)) (t ∷ ts) }
 
           token_law : (k : K.Kind) (ts : List K.Token) → Law (token k) (go (token k)) ts (go (token k) ts)
-          token_law k [] = record { is = refl; front = []; split = refl; local = no_token k; means = example (token k) }
+          token_law k [] = record { is = refl; front = []; split = refl; local = no_token k; means = ahead (example (token k)) [] }
           token_law k (t ∷ ts) = token_at k t ts (K.same (K.kind t) k) refl
 
           mark_at : (k : K.Kind) (t : K.Token) (ts : List K.Token) (b : Bool) → K.same (K.kind t) k ≡ b → Law (mark k) (go (mark k)) (t ∷ ts) (◌>>=◌ {A = K.Token} {B = K.Place} (if b then Ok (t, ts) else Err (t ∷ ts)) (λ u ks. Ok (K.place u, ks)))
           mark_at k t ts true e = record { is = rw e refl; front = t ∷ []; split = refl; local = λ ks l. rw e refl; means = λ ks. d_mark (D.equal (K.kind t) k e) }
-          mark_at k t ts false e = record { is = rw e refl; front = []; split = refl; local = λ ks l. let d = no_match k t ts e ks l in rw d refl; means = example (mark k) }
+          mark_at k t ts false e = record { is = rw e refl; front = []; split = refl; local = λ ks l. let d = no_match k t ts e ks l in rw d refl; means = ahead (example (mark k)) (t ∷ ts) }
 
           mark_law : (k : K.Kind) (ts : List K.Token) → Law (mark k) (go (mark k)) ts (go (mark k) ts)
-          mark_law k [] = record { is = refl; front = []; split = refl; local = λ ks l. let d = no_token k ks l in rw d refl; means = example (mark k) }
+          mark_law k [] = record { is = refl; front = []; split = refl; local = λ ks l. let d = no_token k ks l in rw d refl; means = ahead (example (mark k)) [] }
           mark_law k (t ∷ ts) = mark_at k t ts (K.same (K.kind t) k) refl
 
           seq_ok : {c d : Code K N T} (r : Rule K N T c) (q : Rule K N T d) (ts : List K.Token) (p : El K N T c × List K.Token) → Law r (go r) ts (Ok p)
@@ -115,11 +150,11 @@ module _ (K : Alphabet) where
             split = x.split;
             local = λ us l. let e = x.local us l in rw e refl;
             means = let m = x.means in let n = example q in (
-              (m.0, n.0),
+              (m.0, n.tree),
               (
-                m.1.0 ++ n.1.0,
+                m.1.0 ++ n.kinds,
                 λ us.
-                    subst (λ vs. Derives K N T rule (pair c d) (seq r q) (m.0, n.0) (x.front ++ vs) us) (sym (examples_append m.1.0 n.1.0 us)) (d_seq (m.1.1 (examples K n.1.0 ++ us)) (n.1.1 us)),
+                    subst (λ vs. Derives K N T rule (pair c d) (seq r q) (m.0, n.tree) (x.front ++ vs) us) (sym (examples_append m.1.0 n.kinds us)) (d_seq (m.1.1 (examples K n.kinds ++ us)) (n.spelled us)),
               ),
             );
           }
