@@ -4,7 +4,7 @@ use Rattle.fst_grammar.specs.Grammar.{Rule, Code, El, token, mark, empty, seq, a
 use Rattle.fst_grammar.proofs.Sound as G
 use Rattle.fst_reader.specs.declared.terminal.Terminal.{Terminal}
 use Rattle.fst_reader.specs.Tokens.{alphabet}
-use Rattle.fst_reader.specs.Productions.{N, T, rule, program, decl, effect, base, two_names, three_names, lift, fun, head, needs, gives, measures, depth, measures_more, effname, params, param, refinement, sort, sat, body, block, binding, annotation, part, after_name, rest, arms, arms_more, arm, dm, dm_block, dm_binding, dmpart, dm_after_name, dm_arms, dm_arms_more, dm_arm, pattern, term, implies_more, disj, disj_more, conj, conj_more, cmp, cmp_more, con, con_more, sum, sum_more, prod, prod_more, un, other, negated, app, solid, prefix, named, plain, inner, inner_more, args, args_more, items, items_more, comparison, sum_operator, prod_operator, prefix_operator, name, binder, number, small}
+use Rattle.fst_reader.specs.Productions.{N, T, rule, program, decl, effect, base, two_names, three_names, lift, fun, head, needs, gives, measures, depth, measures_more, effname, params, param, refinement, sort, sort_more, sat, body, block, binding, annotation, part, after_name, rest, arms, arms_more, arm, dm, dm_block, dm_binding, dmpart, dm_after_name, dm_arms, dm_arms_more, dm_arm, pattern, term, implies_more, disj, disj_more, conj, conj_more, cmp, cmp_more, con, con_more, sum, sum_more, prod, prod_more, un, other, negated, app, solid, prefix, named, plain, inner, inner_more, args, args_more, items, items_more, comparison, sum_operator, prod_operator, prefix_operator, name, binder, number, small}
 use Rattle.fst_reader.specs.Tables.{firsts, nullable}
 use Rattle.fst_reader.proofs.Terminals.{kinds}
 
@@ -81,8 +81,11 @@ of_prefix_operator = called (left (made one))
 of_sat : Has sat
 of_sat = called (left (made one))
 
+of_sort_more : Has sort_more
+of_sort_more = called (made (right (made none)))
+
 of_sort : Has sort
-of_sort = called (made (both of_sat (right (made none))))
+of_sort = called (made (both of_sat of_sort_more))
 
 of_effname : Has effname
 of_effname = called (left (made one))
@@ -294,6 +297,7 @@ sample params = of_params
 sample param = of_param
 sample refinement = of_refinement
 sample sort = of_sort
+sample sort_more = of_sort_more
 sample sat = of_sat
 sample body = of_body
 sample block = of_block

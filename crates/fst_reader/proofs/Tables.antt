@@ -1,6 +1,6 @@
 -- The tables are right for the productions.
 use Rattle.std.proofs.Common.{◌≡◌, ◌<◌, ℕ, zero, suc, true, false, refl, arith}
-use Rattle.fst_reader.specs.Productions.{N, T, rule, program, decl, effect, base, two_names, three_names, lift, fun, head, needs, gives, measures, depth, measures_more, effname, params, param, refinement, sort, sat, body, block, binding, annotation, part, after_name, rest, arms, arms_more, arm, dm, dm_block, dm_binding, dmpart, dm_after_name, dm_arms, dm_arms_more, dm_arm, pattern, term, implies_more, disj, disj_more, conj, conj_more, cmp, cmp_more, con, con_more, sum, sum_more, prod, prod_more, un, other, negated, app, solid, prefix, named, plain, inner, inner_more, args, args_more, items, items_more, comparison, sum_operator, prod_operator, prefix_operator, name, binder, number, small}
+use Rattle.fst_reader.specs.Productions.{N, T, rule, program, decl, effect, base, two_names, three_names, lift, fun, head, needs, gives, measures, depth, measures_more, effname, params, param, refinement, sort, sort_more, sat, body, block, binding, annotation, part, after_name, rest, arms, arms_more, arm, dm, dm_block, dm_binding, dmpart, dm_after_name, dm_arms, dm_arms_more, dm_arm, pattern, term, implies_more, disj, disj_more, conj, conj_more, cmp, cmp_more, con, con_more, sum, sum_more, prod, prod_more, un, other, negated, app, solid, prefix, named, plain, inner, inner_more, args, args_more, items, items_more, comparison, sum_operator, prod_operator, prefix_operator, name, binder, number, small}
 use Rattle.fst_reader.specs.Tables.{firsts, nullable, follow, rank, top}
 use Rattle.fst_reader.specs.Tokens.{alphabet}
 use Rattle.fst_grammar.specs.Alphabet.{within}
@@ -28,6 +28,7 @@ good params = refl
 good param = refl
 good refinement = refl
 good sort = refl
+good sort_more = refl
 good sat = refl
 good body = refl
 good block = refl
@@ -109,6 +110,7 @@ full params e = cc
 full param e = refl
 full refinement e = cc
 full sort e = refl
+full sort_more e = cc
 full sat e = refl
 full body e = refl
 full block e = refl
@@ -190,6 +192,7 @@ ranked params = refl
 ranked param = refl
 ranked refinement = refl
 ranked sort = refl
+ranked sort_more = refl
 ranked sat = refl
 ranked body = refl
 ranked block = refl
@@ -271,6 +274,7 @@ ranks params = omega arith
 ranks param = omega arith
 ranks refinement = omega arith
 ranks sort = omega arith
+ranks sort_more = omega arith
 ranks sat = omega arith
 ranks body = omega arith
 ranks block = omega arith
@@ -352,6 +356,7 @@ follows params = refl
 follows param = refl
 follows refinement = refl
 follows sort = refl
+follows sort_more = refl
 follows sat = refl
 follows body = refl
 follows block = refl

@@ -2,4 +2,4 @@ pub mod Tokens
 pub mod Trees
 pub mod Productions
 pub mod Tables
-pub mod Answers
+pub mod Reading

@@ -47,7 +47,7 @@ pub data N : Type 0 where
   fun head needs gives measures depth : N
   measures_more : ℕ → N
   effname params param refinement : N
-  sort sat : N
+  sort sort_more sat : N
   body block binding annotation part after_name rest : N
   arms arms_more arm : N
   dm dm_block dm_binding dmpart dm_after_name : N
@@ -80,6 +80,7 @@ T param = ParamTree Word
 T refinement = Option Tree
 T sort = SortTree Word
 T sat = SortTree Word
+T sort_more = Option (SortTree Word)
 T body = BodyTree Word
 T block = BodyTree Word
 T binding = Binding (PartTree Word)
@@ -239,7 +240,8 @@ rule param = (λ p. record { hidden = t.is_there p.0; name = p.1.0; sort = p.1.1
     ⇐ optional (mark k.Ghost) ⋅ k.LeftParen ▸ call binder ⋅ k.Colon ▸ call sort ⋅ call refinement ◂ k.RightParen
 rule refinement = (λ a. a) ⇐ optional (k.LeftBrace ▸ call (term true) ◂ k.RightBrace)
 
-rule sort = (λ p. product p.0 p.1) ⇐ call sat ⋅ optional (k.Star ▸ call sort)
+rule sort = (λ p. product p.0 p.1) ⇐ call sat ⋅ call sort_more
+rule sort_more = (λ a. a) ⇐ optional (k.Star ▸ call sort)
 rule sat = (λ _. S.Unit) ⇐ mark k.Unit
     ∣ (λ _. S.Bool) ⇐ mark k.Bool
     ∣ (λ _. S.Int) ⇐ mark k.Int

@@ -3,7 +3,7 @@
 use Rattle.std.specs.Prelude.{ℕ, Bool, true, false, List, [], ◌∷◌, ◌++◌}
 use Rattle.fst_reader.specs.declared.terminal.Terminal.{Terminal}
 use Rattle.fst_reader.specs.declared.terminal.Terminal.TheVariants as k
-use Rattle.fst_reader.specs.Productions.{N, program, decl, effect, base, two_names, three_names, lift, fun, head, needs, gives, measures, depth, measures_more, effname, params, param, refinement, sort, sat, body, block, binding, annotation, part, after_name, rest, arms, arms_more, arm, dm, dm_block, dm_binding, dmpart, dm_after_name, dm_arms, dm_arms_more, dm_arm, pattern, term, implies_more, disj, disj_more, conj, conj_more, cmp, cmp_more, con, con_more, sum, sum_more, prod, prod_more, un, other, negated, app, solid, prefix, named, plain, inner, inner_more, args, args_more, items, items_more, comparison, sum_operator, prod_operator, prefix_operator, name, binder, number, small}
+use Rattle.fst_reader.specs.Productions.{N, program, decl, effect, base, two_names, three_names, lift, fun, head, needs, gives, measures, depth, measures_more, effname, params, param, refinement, sort, sort_more, sat, body, block, binding, annotation, part, after_name, rest, arms, arms_more, arm, dm, dm_block, dm_binding, dmpart, dm_after_name, dm_arms, dm_arms_more, dm_arm, pattern, term, implies_more, disj, disj_more, conj, conj_more, cmp, cmp_more, con, con_more, sum, sum_more, prod, prod_more, un, other, negated, app, solid, prefix, named, plain, inner, inner_more, args, args_more, items, items_more, comparison, sum_operator, prod_operator, prefix_operator, name, binder, number, small}
 
 -- the tokens with which terms and their parts begin
 abbrev pub prefix_first : List Terminal
@@ -59,6 +59,7 @@ firsts params = k.Ghost ∷ k.LeftParen ∷ []
 firsts param = k.Ghost ∷ k.LeftParen ∷ []
 firsts refinement = k.LeftBrace ∷ []
 firsts sort = sat_first
+firsts sort_more = k.Star ∷ []
 firsts sat = sat_first
 firsts body = body_first
 firsts block = k.LeftBrace ∷ []
@@ -125,6 +126,7 @@ nullable (measures_more n) = true
 nullable depth = true
 nullable params = true
 nullable refinement = true
+nullable sort_more = true
 nullable annotation = true
 nullable after_name = true
 nullable rest = true
@@ -196,6 +198,7 @@ follow params = k.Colon ∷ []
 follow param = k.Ghost ∷ k.LeftParen ∷ k.Colon ∷ []
 follow refinement = k.RightParen ∷ []
 follow sort = sort_follow
+follow sort_more = sort_follow
 follow sat = k.Star ∷ sat_first ++ sort_follow
 follow body = body_follow
 follow block = k.LeftParen ∷ k.In ∷ body_follow ++ decl_follow

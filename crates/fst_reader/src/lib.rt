@@ -10,6 +10,7 @@ mod operator;
 mod pattern;
 mod reader;
 mod sort;
+mod sorts;
 mod terminal;
 mod word;
 

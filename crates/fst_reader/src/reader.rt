@@ -2,13 +2,14 @@
 
 ghost use Rattle.std.specs.Prelude.{◌≡◌, ◌<◌, ◌≤◌, false, length, OnOk, IfSome};
 ghost use Rattle.fst_grammar.specs.Alphabet.{next};
-ghost use Rattle.fst_reader.specs.Answers.{place_at};
 ghost use Rattle.fst_reader.specs.Tokens.{alphabet};
-ghost use Rattle.fst_reader.specs.Answers.{Reads};
+ghost use Rattle.fst_reader.specs.Productions as n;
+ghost use Rattle.fst_reader.specs.Reading.{Reads, Gives, reads, takes, eats};
 
 use crate::lexeme::Lexeme;
 use crate::terminal::Terminal;
-use fst_base::{OutOfMemory, Pos};
+use crate::word::Word;
+use fst_base::{Name, OutOfMemory, Pos};
 use std::alloc::Global;
 use std::marker::Model;
 
@@ -47,6 +48,11 @@ impl<'a> Model for Reader<'a> {
 }
 
 impl<'a> Reader<'a> {
+    /// What makes the trees.
+    pub fn alloc(&self) -> Global {
+        self.alloc
+    }
+
     /// The terminal of the next token.
     pub fn peek(&self) -> Terminal
         ensures { result ≡ next alphabet self.now }
@@ -59,7 +65,7 @@ impl<'a> Reader<'a> {
 
     /// Takes a token of this terminal; its place.
     pub fn expect(&mut self, terminal: Terminal) -> Result<Pos, Stop>
-        ensures reads { Reads (place_at terminal self.old) result self.new }
+        ensures reads { Reads (takes terminal self.old) result self.new }
         ensures shorter { OnOk result (length self.new < length self.old) }
     {
         match self.rest {
@@ -74,4 +80,51 @@ impl<'a> Reader<'a> {
             [] => Err(Stop::Syntax),
         }
     }
+
+    /// Takes a token of this terminal where one comes next; its place.
+    pub fn eat(&mut self, terminal: Terminal) -> Option<Pos>
+        requires { alphabet.same Terminal.End terminal ≡ false }
+        ensures reads { eats terminal self.old ≡ Ok (result, self.new) }
+        ensures no_longer { length self.new ≤ length self.old }
+        ensures shorter { IfSome result (λ _. length self.new < length self.old) }
+    {
+        match self.rest {
+            [token, rest @ ..] => {
+                if token.terminal == terminal {
+                    self.rest = rest;
+                    Some(Pos { at: token.at })
+                } else {
+                    None
+                }
+            }
+            [] => None,
+        }
+    }
+
+    /// An identifier.
+    #[tactic(auto, using(crate::proofs::Opens::opens))]
+    pub fn name(&mut self) -> Result<Word, Stop>
+        ensures reads { Reads (reads n.name self.old) result self.new }
+        ensures shorter { OnOk result (length self.new < length self.old) }
+    {
+        match self.rest {
+            [token, rest @ ..] => {
+                if token.terminal == Terminal::Name {
+                    self.rest = rest;
+                    word(self.alloc, token.text, token.at)
+                } else {
+                    Err(Stop::Syntax)
+                }
+            }
+            [] => Err(Stop::Syntax),
+        }
+    }
+}
+
+/// The text as a word.
+fn word(alloc: Global, text: &str, at: u32) -> Result<Word, Stop>
+    ensures { Gives (record { text = text.now; at = record { at = at } }) result }
+{
+    let text = Name::new(alloc, text)?;
+    Ok(Word { text, at: Pos { at } })
 }
