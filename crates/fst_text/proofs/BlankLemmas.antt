@@ -1,9 +1,9 @@
 -- Blanks and comments at the front.
-use Rattle.std.proofs.Common.{◌≡◌, ℕ, zero, suc, ◌+◌, ◌<◌, ◌≤◌, Bool, true, false, List, [], ◌∷◌, length, take, drop, codes, bytes_eq, refl, sym, ap, ◌∙◌, arith, inl, inr, length-drop, length-take}
+use Rattle.std.proofs.Common.{◌≡◌, ℕ, ◌≤◌, true, List, [], ◌∷◌, length, take, drop, codes, bytes_eq, ap, arith, inl, inr, length-drop, length-take}
 use Rattle.std.proofs.lemmas.Bool.{cases_Bool}
 use Rattle.std.proofs.lemmas.Slice.Eq.{bytes_eq-Decides}
-use Rattle.fst_text.specs.Characters.{char_len, run_len, many, stays_in_comment}
-use Rattle.fst_text.specs.Blanks.{is_blank, blank_len, blanks_len}
+use Rattle.fst_text.specs.Characters.{stays_in_comment}
+use Rattle.fst_text.specs.Blanks.{is_blank, blank_len}
 use Rattle.fst_text.proofs.ManyLemmas.{IsWithin, many-within}
 use Rattle.fst_text.proofs.CharacterLemmas.{char_len-within}
 
@@ -17,8 +17,8 @@ within (b ∷ bs) = elim (cases_Bool (is_blank b)) [
   | inl t ↦ rw t (omega arith)
   | inr t ↦ rw t (elim (cases_Bool (bytes_eq (take 2 (b ∷ bs)) (codes "//"))) [
     | inl s ↦
-      let body = many-within _ (char_len-within stays_in_comment) (drop 2 (b ∷ bs)) in
-      rw s (omega (arith, body, comment_begins (b ∷ bs) s, length-drop 2 (b ∷ bs)))
+        let body = many-within _ (char_len-within stays_in_comment) (drop 2 (b ∷ bs)) in
+        rw s (omega (arith, body, comment_begins (b ∷ bs) s, length-drop 2 (b ∷ bs)))
     | inr s ↦ rw s (omega arith)
   ])
 ]

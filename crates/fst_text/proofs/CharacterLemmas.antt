@@ -1,5 +1,5 @@
 -- The characters at the front.
-use Rattle.std.proofs.Common.{◌≡◌, ℕ, zero, suc, ◌+◌, ◌<◌, ◌≤◌, Bool, true, false, ◌&&◌, ◌==◌, List, [], ◌∷◌, ◌++◌, Option, Some, None, length, take, drop, refl, sym, ap, subst, ◌∙◌, arith, inl, inr, append_assoc, length-append}
+use Rattle.std.proofs.Common.{◌≡◌, ℕ, zero, suc, ◌+◌, ◌<◌, ◌≤◌, Bool, true, ◌&&◌, ◌==◌, List, [], ◌∷◌, ◌++◌, Option, Some, None, length, take, drop, refl, sym, ap, subst, ◌∙◌, arith, inl, inr, append_assoc, length-append}
 use Rattle.std.proofs.Math.Seq.{take-append-add, drop-append_seam}
 use Rattle.std.proofs.lemmas.Bool.{cases_Bool, cond-true, cond-false, and_parts}
 use Rattle.std.proofs.lemmas.Bool.Decides.{nat_tests}
@@ -76,14 +76,14 @@ one_more : (p : ℕ → Bool) (bs : List ℕ) (n : ℕ) → IsPassing p bs → A
 one_more p bs n first rest =
     let size = first.spelled.width in
     let split : take (length (encode_utf8 first.char) + n) (encode_utf8 first.char ++ drop (char_len p bs) bs)
-        ≡ encode_utf8 first.char ++ take n (drop (char_len p bs) bs) = take-append-add _ _ n in
+    ≡ encode_utf8 first.char ++ take n (drop (char_len p bs) bs) = take-append-add _ _ n in
     record {
       chars = first.char ∷ rest.chars;
       scalars = ap (λ b. b && all_scalars rest.chars) first.spelled.scalar ∙ rest.scalars;
       pass = ap (λ b. b && list_all p rest.chars) first.passes ∙ rest.pass;
       spelled = ap (take (char_len p bs + n)) first.spelled.bytes
-        ∙ ap (λ k. take (k + n) (encode_utf8 first.char ++ drop (char_len p bs) bs)) (sym size)
-        ∙ split ∙ ap (λ r. encode_utf8 first.char ++ r) rest.spelled;
+          ∙ ap (λ k. take (k + n) (encode_utf8 first.char ++ drop (char_len p bs) bs)) (sym size)
+          ∙ split ∙ ap (λ r. encode_utf8 first.char ++ r) rest.spelled;
     }
 
 run_within-passing : (p : ℕ → Bool) (k : ℕ) (bs : List ℕ) → ArePassing p (take (many_within (char_len p) k bs) bs)
@@ -91,10 +91,10 @@ run_within-passing p zero bs = none_pass p bs 0 refl
 run_within-passing p (suc k) bs = elim (cases_Bool (char_len p bs == 0)) [
   | inl t ↦ none_pass p bs _ (cond-true _ _ _ t)
   | inr t ↦
-    let some : 0 < char_len p bs = grind (arith, nat_tests) in
-    let step : many_within (char_len p) (suc k) bs ≡ char_len p bs + many_within (char_len p) k (drop (char_len p bs) bs) = cond-false _ _ _ t in
-    subst (λ n. ArePassing p (take n bs)) (sym step)
-    (one_more p bs _ (char_len-passing p bs some) (run_within-passing p k (drop (char_len p bs) bs)))
+      let some : 0 < char_len p bs = grind (arith, nat_tests) in
+      let step : many_within (char_len p) (suc k) bs ≡ char_len p bs + many_within (char_len p) k (drop (char_len p bs) bs) = cond-false _ _ _ t in
+      subst (λ n. ArePassing p (take n bs)) (sym step)
+      (one_more p bs _ (char_len-passing p bs some) (run_within-passing p k (drop (char_len p bs) bs)))
 ]
 
 -- what a run takes are characters that pass the test

@@ -1,18 +1,18 @@
 -- The longest token at the front.
-use Rattle.std.proofs.Common.{◌≡◌, ◌≢◌, ℕ, zero, suc, ◌+◌, ◌<◌, ◌≤◌, Bool, true, false, ◌&&◌, ◌||◌, not, ◌==◌, nat_lt, List, [], ◌∷◌, Option, Some, None, length, take, get_or, refl, sym, ap, subst, ◌∙◌, arith, inl, inr, ◌⊎◌, length-take, length-take-le}
+use Rattle.std.proofs.Common.{◌≡◌, ℕ, ◌<◌, ◌≤◌, Bool, true, false, ◌||◌, not, ◌==◌, nat_lt, List, [], Some, None, length, take, get_or, refl, sym, ap, subst, ◌∙◌, arith, inl, inr, ◌⊎◌, length-take-le}
 use Rattle.std.proofs.lemmas.Bool.{cases_Bool, cond-true, cond-false, and_parts}
 use Rattle.std.proofs.lemmas.Bool.Decides.{nat_tests}
 use Rattle.std.proofs.lemmas.List.Sums.{prefix_len-le-length}
 use Rattle.std.specs.Char.{is_ascii_digit, is_ascii_alphabetic}
-use Rattle.std.specs.List.{list_all, prefix_len}
+use Rattle.std.specs.List.{prefix_len}
 use Rattle.fst_text.specs.declared.token.Kind.{Kind}
 use Rattle.fst_text.specs.declared.token.Kind.TheVariants.{Word, Ident, Number, Mark}
 use Rattle.fst_text.specs.Characters.{name_len}
 use Rattle.fst_text.specs.Words.{is_word}
-use Rattle.fst_text.specs.Marks.{is_mark, mark_len}
+use Rattle.fst_text.specs.Marks.{mark_len}
 use Rattle.fst_text.specs.Tokens.{IsName, IsToken, IsLongest, BeginsNone, kind_of, lexeme}
 use Rattle.fst_text.proofs.NameLemmas.{no_empty_name, name_len-within, name_len-name, name_len-longest, name-head}
-use Rattle.fst_text.proofs.MarkLemmas.{begins_mark, prefix_len-all, prefix_len-longest, prefix_len-head, mark_len-mark, mark_len-longest, mark-head}
+use Rattle.fst_text.proofs.MarkLemmas.{prefix_len-all, prefix_len-longest, prefix_len-head, mark_len-mark, mark_len-longest, mark-head}
 
 abbrev pub number_len : List ℕ → ℕ
 number_len = prefix_len is_ascii_digit
@@ -54,9 +54,9 @@ pub number-apart : (bs : List ℕ) → 0 < name_len bs → number_len bs ≡ 0
 number-apart bs name = elim (cases_Bool (number_len bs == 0)) [
   | inl t ↦ grind (arith, nat_tests)
   | inr t ↦
-    let some : 0 < number_len bs = grind (arith, nat_tests) in
-    let digit = prefix_len-head is_ascii_digit bs some in
-    absurd (digit_apart (get_or bs 0 0) digit (name-head bs name (digit_low (get_or bs 0 0) digit)))
+      let some : 0 < number_len bs = grind (arith, nat_tests) in
+      let digit = prefix_len-head is_ascii_digit bs some in
+      absurd (digit_apart (get_or bs 0 0) digit (name-head bs name (digit_low (get_or bs 0 0) digit)))
 ]
 
 not_both : (b : Bool) → b ≡ true → not b ≡ true → ⊥
@@ -67,19 +67,19 @@ pub mark-apart_name : (bs : List ℕ) → 0 < name_len bs → mark_len bs ≡ 0
 mark-apart_name bs name = elim (cases_Bool (mark_len bs == 0)) [
   | inl t ↦ grind (arith, nat_tests)
   | inr t ↦
-    let some : 0 < mark_len bs = grind (arith, nat_tests) in
-    let head = and_parts _ _ (mark-head bs some) in
-    let low : get_or bs 0 0 < 128 = let l = head.0 in grind (arith, nat_tests) in
-    absurd (not_both _ (name-head bs name low) (and_parts _ _ head.1).0)
+      let some : 0 < mark_len bs = grind (arith, nat_tests) in
+      let head = and_parts _ _ (mark-head bs some) in
+      let low : get_or bs 0 0 < 128 = let l = head.0 in grind (arith, nat_tests) in
+      absurd (not_both _ (name-head bs name low) (and_parts _ _ head.1).0)
 ]
 
 pub mark-apart_number : (bs : List ℕ) → 0 < number_len bs → mark_len bs ≡ 0
 mark-apart_number bs number = elim (cases_Bool (mark_len bs == 0)) [
   | inl t ↦ grind (arith, nat_tests)
   | inr t ↦
-    let some : 0 < mark_len bs = grind (arith, nat_tests) in
-    let head = and_parts _ _ (mark-head bs some) in
-    absurd (not_both _ (prefix_len-head is_ascii_digit bs number) (and_parts _ _ head.1).1)
+      let some : 0 < mark_len bs = grind (arith, nat_tests) in
+      let head = and_parts _ _ (mark-head bs some) in
+      absurd (not_both _ (prefix_len-head is_ascii_digit bs number) (and_parts _ _ head.1).1)
 ]
 
 -- no token at the front is longer than the three measures
@@ -98,10 +98,10 @@ name_token w name = elim (cases_Bool (is_word w)) [
 
 pub name-longest : (bs : List ℕ) → 0 < name_len bs → IsLongest (kind_of (take (name_len bs) bs)) (name_len bs) bs
 name-longest bs some = record {
-    within = name_len-within bs;
-    token = name_token (take (name_len bs) bs) (name_len-name bs some);
-    longest = bounded bs (name_len bs) (omega arith) (omega (arith, number-apart bs some)) (omega (arith, mark-apart_name bs some));
-  }
+  within = name_len-within bs;
+  token = name_token (take (name_len bs) bs) (name_len-name bs some);
+  longest = bounded bs (name_len bs) (omega arith) (omega (arith, number-apart bs some)) (omega (arith, mark-apart_name bs some));
+}
 
 pub number-longest : (bs : List ℕ) → name_len bs ≡ 0 → 0 < number_len bs → IsLongest Number (number_len bs) bs
 number-longest bs none some =
@@ -142,15 +142,15 @@ some_is x y e = cc
 by_measures : (bs : List ℕ) → ((found : Kind × ℕ) × ((lexeme bs ≡ Some found) × Fits bs found)) ⊎ ((lexeme bs ≡ None) × BeginsNone bs)
 by_measures bs = elim (cases_Bool (name_len bs == 0)) [
   | inr t ↦ let some : 0 < name_len bs = grind (arith, nat_tests) in
-    inl ((kind_of (take (name_len bs) bs), name_len bs), (sym (lexeme-name bs _ _ refl some refl), (some, name-longest bs some)))
+      inl ((kind_of (take (name_len bs) bs), name_len bs), (sym (lexeme-name bs _ _ refl some refl), (some, name-longest bs some)))
   | inl t ↦ let none : name_len bs ≡ 0 = grind (arith, nat_tests) in elim (cases_Bool (number_len bs == 0)) [
     | inr u ↦ let some : 0 < number_len bs = grind (arith, nat_tests) in
-      inl ((Number, number_len bs), (sym (lexeme-number bs _ none refl some), (some, number-longest bs none some)))
+        inl ((Number, number_len bs), (sym (lexeme-number bs _ none refl some), (some, number-longest bs none some)))
     | inl u ↦ let no_digit : number_len bs ≡ 0 = grind (arith, nat_tests) in elim (cases_Bool (mark_len bs == 0)) [
       | inr v ↦ let some : 0 < mark_len bs = grind (arith, nat_tests) in
-        inl ((Mark, mark_len bs), (sym (lexeme-mark bs _ none no_digit refl some), (some, mark-longest bs none no_digit some)))
+          inl ((Mark, mark_len bs), (sym (lexeme-mark bs _ none no_digit refl some), (some, mark-longest bs none no_digit some)))
       | inl v ↦ let no_mark : mark_len bs ≡ 0 = grind (arith, nat_tests) in
-        inr (sym (lexeme-nothing bs none no_digit no_mark), nothing-begins bs none no_digit no_mark)
+          inr (sym (lexeme-nothing bs none no_digit no_mark), nothing-begins bs none no_digit no_mark)
     ]
   ]
 ]

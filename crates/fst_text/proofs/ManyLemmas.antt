@@ -1,5 +1,5 @@
 -- Pieces at the front, one after another.
-use Rattle.std.proofs.Common.{◌≡◌, ℕ, zero, suc, ◌+◌, ◌-◌, ◌<◌, ◌≤◌, ◌==◌, Bool, true, false, List, [], length, drop, refl, sym, ap, ◌∙◌, arith, cond, length-drop, inl, inr}
+use Rattle.std.proofs.Common.{◌≡◌, ℕ, zero, suc, ◌+◌, ◌<◌, ◌≤◌, ◌==◌, true, false, List, length, drop, refl, sym, ap, ◌∙◌, arith, length-drop, inl, inr}
 use Rattle.std.proofs.lemmas.List.{drop-drop}
 use Rattle.std.proofs.lemmas.Bool.{cond-true, cond-false, cases_Bool}
 use Rattle.std.proofs.lemmas.Bool.Decides.{nat_tests}
@@ -23,9 +23,9 @@ same_within f w j zero bs a b = let e : f bs ≡ 0 = omega (arith, w.within bs) 
 same_within f w (suc j) (suc k) bs a b = elim (cases_Bool (f bs == 0)) [
   | inl t ↦ let e : f bs ≡ 0 = grind (arith, nat_tests) in stops f (suc j) bs e ∙ sym (stops f (suc k) bs e)
   | inr t ↦
-    let some : 0 < f bs = grind (arith, nat_tests) in
-    let rest = same_within f w j k (drop (f bs) bs) (omega (arith, length-drop (f bs) bs)) (omega (arith, length-drop (f bs) bs)) in
-    goes_on f j bs some ∙ ap (λ n. f bs + n) rest ∙ sym (goes_on f k bs some)
+      let some : 0 < f bs = grind (arith, nat_tests) in
+      let rest = same_within f w j k (drop (f bs) bs) (omega (arith, length-drop (f bs) bs)) (omega (arith, length-drop (f bs) bs)) in
+      goes_on f j bs some ∙ ap (λ n. f bs + n) rest ∙ sym (goes_on f k bs some)
 ]
 
 pub many-stop : (f : List ℕ → ℕ) (bs : List ℕ) → f bs ≡ 0 → many f bs ≡ 0
@@ -56,8 +56,8 @@ within_within f w zero bs = omega arith
 within_within f w (suc k) bs = elim (cases_Bool (f bs == 0)) [
   | inl t ↦ let e : f bs ≡ 0 = grind (arith, nat_tests) in omega (arith, stops f (suc k) bs e)
   | inr t ↦
-    let some : 0 < f bs = grind (arith, nat_tests) in
-    omega (arith, goes_on f k bs some, w.within bs, within_within f w k (drop (f bs) bs), length-drop (f bs) bs)
+      let some : 0 < f bs = grind (arith, nat_tests) in
+      omega (arith, goes_on f k bs some, w.within bs, within_within f w k (drop (f bs) bs), length-drop (f bs) bs)
 ]
 
 pub many-within : (f : List ℕ → ℕ) → IsWithin f → (bs : List ℕ) → many f bs ≤ length bs

@@ -1,5 +1,5 @@
 -- The number and the mark at the front.
-use Rattle.std.proofs.Common.{◌≡◌, ◌≢◌, ℕ, zero, suc, ◌+◌, ◌<◌, ◌≤◌, Bool, true, false, ◌&&◌, ◌||◌, not, ◌==◌, nat_lt, List, [], ◌∷◌, length, take, get_or, bytes_eq, refl, sym, ap, subst, ◌∙◌, arith, inl, inr, ◌⊎◌, cond, lit≤, length-take}
+use Rattle.std.proofs.Common.{◌≡◌, ℕ, zero, suc, ◌+◌, ◌<◌, ◌≤◌, Bool, true, false, ◌&&◌, ◌||◌, not, ◌==◌, nat_lt, List, [], ◌∷◌, length, take, get_or, bytes_eq, refl, sym, ap, subst, ◌∙◌, arith, inl, inr, ◌⊎◌, cond, lit≤, length-take}
 use Rattle.std.proofs.Math.Seq.{take-append-add}
 use Rattle.std.proofs.lemmas.List.{get_or-take}
 use Rattle.std.proofs.lemmas.Bool.{cases_Bool, cond-true, cond-false, and_parts}
@@ -42,8 +42,8 @@ is_one_of-has holds [] all bs one = absurd (let f : false ≡ true = one in cc)
 is_one_of-has holds (t ∷ texts) all bs one =
     let both = and_parts _ _ all in
     elim (cases_Bool (bytes_eq t bs)) [
-    | inl e ↦ subst (λ w. holds w ≡ true) ((bytes_eq-Decides t bs).0 e) both.0
-    | inr e ↦ is_one_of-has holds texts both.1 bs (sym (ap (λ b. b || is_one_of texts bs) e) ∙ one)
+      | inl e ↦ subst (λ w. holds w ≡ true) ((bytes_eq-Decides t bs).0 e) both.0
+      | inr e ↦ is_one_of-has holds texts both.1 bs (sym (ap (λ b. b || is_one_of texts bs) e) ∙ one)
     ]
 
 abbrev is_long : ℕ → List ℕ → Bool
@@ -96,33 +96,33 @@ least_3 false b a e = absurd (cc)
 pub mark_len-longest : (bs : List ℕ) (m : ℕ) → m ≤ length bs → is_mark (take m bs) ≡ true → m ≤ mark_len bs
 mark_len-longest bs m le mark = elim (cases_mark _ _ _ mark) [
   | inl a ↦
-    let is : m ≡ 1 = size_of bs m 1 le (long_of 1 marks_of_1 (take m bs) refl a) in
-    let a' = subst (λ k. is_one_of marks_of_1 (take k bs) ≡ true) is a in
-    subst (λ k. k ≤ mark_len bs) (sym is) (least_1 (is_one_of marks_of_3 (take 3 bs)) (is_one_of marks_of_2 (take 2 bs)) _ a')
+      let is : m ≡ 1 = size_of bs m 1 le (long_of 1 marks_of_1 (take m bs) refl a) in
+      let a' = subst (λ k. is_one_of marks_of_1 (take k bs) ≡ true) is a in
+      subst (λ k. k ≤ mark_len bs) (sym is) (least_1 (is_one_of marks_of_3 (take 3 bs)) (is_one_of marks_of_2 (take 2 bs)) _ a')
   | inr (inl b) ↦
-    let is : m ≡ 2 = size_of bs m 2 le (long_of 2 marks_of_2 (take m bs) refl b) in
-    let b' = subst (λ k. is_one_of marks_of_2 (take k bs) ≡ true) is b in
-    subst (λ k. k ≤ mark_len bs) (sym is) (least_2 (is_one_of marks_of_3 (take 3 bs)) _ (is_one_of marks_of_1 (take 1 bs)) b')
+      let is : m ≡ 2 = size_of bs m 2 le (long_of 2 marks_of_2 (take m bs) refl b) in
+      let b' = subst (λ k. is_one_of marks_of_2 (take k bs) ≡ true) is b in
+      subst (λ k. k ≤ mark_len bs) (sym is) (least_2 (is_one_of marks_of_3 (take 3 bs)) _ (is_one_of marks_of_1 (take 1 bs)) b')
   | inr (inr d) ↦
-    let is : m ≡ 3 = size_of bs m 3 le (long_of 3 marks_of_3 (take m bs) refl d) in
-    let d' = subst (λ k. is_one_of marks_of_3 (take k bs) ≡ true) is d in
-    subst (λ k. k ≤ mark_len bs) (sym is) (least_3 _ (is_one_of marks_of_2 (take 2 bs)) (is_one_of marks_of_1 (take 1 bs)) d')
+      let is : m ≡ 3 = size_of bs m 3 le (long_of 3 marks_of_3 (take m bs) refl d) in
+      let d' = subst (λ k. is_one_of marks_of_3 (take k bs) ≡ true) is d in
+      subst (λ k. k ≤ mark_len bs) (sym is) (least_3 _ (is_one_of marks_of_2 (take 2 bs)) (is_one_of marks_of_1 (take 1 bs)) d')
 ]
 
 -- the longest mark is one
 pub mark_len-mark : (bs : List ℕ) → 0 < mark_len bs → (mark_len bs ≤ length bs) × (is_mark (take (mark_len bs) bs) ≡ true)
 mark_len-mark bs some = elim (cases_Bool (is_one_of marks_of_3 (take 3 bs))) [
   | inl t ↦
-    let long = long_of 3 marks_of_3 (take 3 bs) refl t in
-    rw t (omega (arith, long, length-take 3 bs), third (is_one_of marks_of_1 (take 3 bs)) (is_one_of marks_of_2 (take 3 bs)) _ t)
+      let long = long_of 3 marks_of_3 (take 3 bs) refl t in
+      rw t (omega (arith, long, length-take 3 bs), third (is_one_of marks_of_1 (take 3 bs)) (is_one_of marks_of_2 (take 3 bs)) _ t)
   | inr t ↦ rw t (elim (cases_Bool (is_one_of marks_of_2 (take 2 bs))) [
     | inl u ↦
-      let long = long_of 2 marks_of_2 (take 2 bs) refl u in
-      rw u (omega (arith, long, length-take 2 bs), second (is_one_of marks_of_1 (take 2 bs)) _ (is_one_of marks_of_3 (take 2 bs)) u)
+        let long = long_of 2 marks_of_2 (take 2 bs) refl u in
+        rw u (omega (arith, long, length-take 2 bs), second (is_one_of marks_of_1 (take 2 bs)) _ (is_one_of marks_of_3 (take 2 bs)) u)
     | inr u ↦ rw u (elim (cases_Bool (is_one_of marks_of_1 (take 1 bs))) [
       | inl v ↦
-        let long = long_of 1 marks_of_1 (take 1 bs) refl v in
-        rw v (omega (arith, long, length-take 1 bs), first _ (is_one_of marks_of_2 (take 1 bs)) (is_one_of marks_of_3 (take 1 bs)) v)
+          let long = long_of 1 marks_of_1 (take 1 bs) refl v in
+          rw v (omega (arith, long, length-take 1 bs), first _ (is_one_of marks_of_2 (take 1 bs)) (is_one_of marks_of_3 (take 1 bs)) v)
       | inr v ↦ absurd (let none : mark_len bs ≡ 0 = cond-false _ _ _ t ∙ cond-false _ _ _ u ∙ cond-false _ _ _ v in omega arith)
     ])
   ])

@@ -1,5 +1,5 @@
 -- The identifier at the front.
-use Rattle.std.proofs.Common.{◌≡◌, ℕ, zero, suc, ◌+◌, ◌<◌, ◌≤◌, Bool, true, false, ◌&&◌, ◌||◌, ◌==◌, List, [], ◌∷◌, ◌++◌, length, take, drop, get_or, refl, sym, ap, subst, ◌∙◌, arith, inl, inr, append_assoc, length-append, length-drop}
+use Rattle.std.proofs.Common.{◌≡◌, ℕ, ◌+◌, ◌<◌, ◌≤◌, true, false, ◌&&◌, ◌||◌, ◌==◌, List, [], ◌∷◌, ◌++◌, length, take, drop, get_or, sym, ap, subst, ◌∙◌, arith, inl, inr, append_assoc, length-append, length-drop}
 use Rattle.std.proofs.Math.Seq.{take-append-add, drop-append_seam}
 use Rattle.std.proofs.lemmas.List.{take-append-drop, length-take-le}
 use Rattle.std.proofs.lemmas.Bool.{cases_Bool, cond-true, cond-false, and_parts}
@@ -31,10 +31,10 @@ pub name_len-within : (bs : List ℕ) → name_len bs ≤ length bs
 name_len-within bs = elim (cases_Bool (char_len starts_name bs == 0)) [
   | inl t ↦ let none : char_len starts_name bs ≡ 0 = grind (arith, nat_tests) in omega (arith, name_len-none bs none)
   | inr t ↦
-    let some : 0 < char_len starts_name bs = grind (arith, nat_tests) in
-    let first = (char_len-within starts_name).within bs in
-    let rest = many-within _ (char_len-within continues_name) (drop (char_len starts_name bs) bs) in
-    omega (arith, name_len-some bs some, first, rest, length-drop (char_len starts_name bs) bs)
+      let some : 0 < char_len starts_name bs = grind (arith, nat_tests) in
+      let first = (char_len-within starts_name).within bs in
+      let rest = many-within _ (char_len-within continues_name) (drop (char_len starts_name bs) bs) in
+      omega (arith, name_len-some bs some, first, rest, length-drop (char_len starts_name bs) bs)
 ]
 
 named : (bs : List ℕ) (n : ℕ) → IsPassing starts_name bs → ArePassing continues_name (take n (drop (char_len starts_name bs) bs))
@@ -49,7 +49,7 @@ named bs n first rest =
       starts = first.passes;
       continues = rest.pass;
       bytes = ap (take (at + n)) first.spelled.bytes ∙ ap (λ k. take (k + n) (front ++ drop at bs)) (sym first.spelled.width)
-        ∙ take-append-add front (drop at bs) n ∙ ap (λ r. front ++ r) rest.spelled;
+          ∙ take-append-add front (drop at bs) n ∙ ap (λ r. front ++ r) rest.spelled;
     }
 
 -- what is measured is an identifier
@@ -76,7 +76,7 @@ pub name_len-longest : (bs : List ℕ) (m : ℕ) → m ≤ length bs → IsName 
 name_len-longest bs m within name =
     let front = encode_utf8_all (name.first ∷ name.rest) in
     let split : bs ≡ encode_utf8 name.first ++ (encode_utf8_all name.rest ++ drop m bs)
-        = sym (take-append-drop m bs) ∙ ap (λ w. w ++ drop m bs) name.bytes ∙ append_assoc (encode_utf8 name.first) (encode_utf8_all name.rest) (drop m bs) in
+    = sym (take-append-drop m bs) ∙ ap (λ w. w ++ drop m bs) name.bytes ∙ append_assoc (encode_utf8 name.first) (encode_utf8_all name.rest) (drop m bs) in
     let long = name_len-of name.first name.rest (drop m bs) name.scalars name.starts name.continues in
     omega (arith, ap name_len split, long, ap length name.bytes, length-take-le m bs within)
 

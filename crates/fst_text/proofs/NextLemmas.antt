@@ -1,5 +1,5 @@
 -- What one step of a scanner does to what is left.
-use Rattle.std.proofs.Common.{◌≡◌, ◌≢◌, ◌↔◌, ℕ, ◌+◌, ◌-◌, ◌<◌, ◌≤◌, List, [], ◌∷◌, ◌++◌, Option, Some, None, Result, Ok, Err, IfSome, IfErr, length, take, drop, refl, sym, ap, subst, ◌∙◌, arith}
+use Rattle.std.proofs.Common.{◌≡◌, ◌↔◌, ℕ, ◌+◌, ◌-◌, ◌<◌, ◌≤◌, List, [], ◌++◌, Option, Some, None, Result, Ok, Err, IfSome, IfErr, length, take, drop, refl, sym, ap, subst, ◌∙◌, arith}
 use Rattle.std.specs.Option.{option_to_list}
 use Rattle.std.proofs.lemmas.List.{take_rest}
 use Rattle.fst_text.specs.declared.token.Kind.{Kind}
@@ -78,7 +78,7 @@ module _ (old : Scan) (text : List ℕ) (at blanks : ℕ) (found : Option (Kind 
       → Steps old (Ok (Some (record { kind = kind; from = at + blanks; to = at + blanks + size }))) (record { text = text; at = at + blanks + size })
   steps-token kind size e =
       let token : token_at text at ≡ Some (record { kind = kind; from = at + blanks; to = at + blanks + size })
-          = ap (token_from (start_at text at)) (sym lexeme_is ∙ e) ∙ ap (λ n. Some (record { kind = kind; from = n; to = n + size })) (sym start_is) in
+      = ap (token_from (start_at text at)) (sym lexeme_is ∙ e) ∙ ap (λ n. Some (record { kind = kind; from = n; to = n + size })) (sym start_is) in
       let result : Result (Option Token) ℕ = Ok (Some (record { kind = kind; from = at + blanks; to = at + blanks + size })) in
       subst (λ o. Steps o result (record { text = text; at = at + blanks + size })) is_old (after_token text at _ le token)
 

@@ -1,16 +1,16 @@
 -- The tokens of a text, one after another.
-use Rattle.std.proofs.Common.{◌≡◌, ℕ, zero, suc, ◌+◌, ◌-◌, ◌<◌, ◌≤◌, Bool, true, false, nat_lt, List, [], ◌∷◌, ◌++◌, Option, Some, None, Result, Ok, Err, length, take, drop, refl, sym, ap, subst, ◌∙◌, arith, inl, inr, ◌⊎◌, cond, length-drop}
+use Rattle.std.proofs.Common.{◌≡◌, ℕ, zero, suc, ◌+◌, ◌-◌, ◌<◌, ◌≤◌, true, false, nat_lt, List, [], ◌∷◌, Option, Some, None, length, drop, refl, sym, ap, subst, ◌∙◌, arith, inl, inr, ◌⊎◌, cond, length-drop}
 use Rattle.std.proofs.lemmas.List.{drop_all}
-use Rattle.std.proofs.lemmas.Bool.{cases_Bool, cond-true, cond-false}
+use Rattle.std.proofs.lemmas.Bool.{cond-true, cond-false}
 use Rattle.std.proofs.lemmas.Bool.Decides.{nat_tests}
 use Rattle.fst_text.specs.declared.token.Kind.{Kind}
 use Rattle.fst_text.specs.declared.token.Token.{Token}
 use Rattle.fst_text.specs.Blanks.{blanks_len}
-use Rattle.fst_text.specs.Tokens.{lexeme, IsLongest, BeginsNone}
+use Rattle.fst_text.specs.Tokens.{lexeme, IsLongest}
 use Rattle.fst_text.specs.Scans.{start_at, token_from, token_at, followed, tokens_within, tokens_from, end_of, fault_from, IsTokenOf, InOrder}
 use Rattle.fst_text.proofs.ManyLemmas.{many-within}
 use Rattle.fst_text.proofs.BlankLemmas.{blank_len-within}
-use Rattle.fst_text.proofs.LexemeLemmas.{lexeme-longest, lexeme-none}
+use Rattle.fst_text.proofs.LexemeLemmas.{lexeme-longest}
 
 pub option_cases : {A : Type 0} (o : Option A) → (o ≡ None) ⊎ ((x : A) × (o ≡ Some x))
 option_cases None = inl refl
@@ -80,9 +80,9 @@ same_within j zero text at le a b = within-none j text at (nothing_at_end text a
 same_within (suc j) (suc k) text at le a b = elim (option_cases (token_at text at)) [
   | inl e ↦ within-none (suc j) text at e ∙ sym (within-none (suc k) text at e)
   | inr (t, e) ↦
-    let next = token_at-next text at t le e in
-    let more = same_within j k text t.to next.token.within (omega (arith, next.after, next.token.some)) (omega (arith, next.after, next.token.some)) in
-    followed-some _ (tokens_within j text) t e ∙ ap (λ ts. t ∷ ts) more ∙ sym (followed-some _ (tokens_within k text) t e)
+      let next = token_at-next text at t le e in
+      let more = same_within j k text t.to next.token.within (omega (arith, next.after, next.token.some)) (omega (arith, next.after, next.token.some)) in
+      followed-some _ (tokens_within j text) t e ∙ ap (λ ts. t ∷ ts) more ∙ sym (followed-some _ (tokens_within k text) t e)
 ]
 
 pub tokens_from-some : (text : List ℕ) (at : ℕ) (t : Token) → at ≤ length text → token_at text at ≡ Some t
@@ -126,9 +126,9 @@ in_order zero text at le = le
 in_order (suc k) text at le = elim (option_cases (token_at text at)) [
   | inl e ↦ subst (InOrder at (length text)) (sym (within-none (suc k) text at e)) le
   | inr (t, e) ↦
-    let next = token_at-next text at t le e in
-    subst (InOrder at (length text)) (sym (followed-some _ (tokens_within k text) t e))
-    (next.after, next.token.some, in_order k text t.to next.token.within)
+      let next = token_at-next text at t le e in
+      subst (InOrder at (length text)) (sym (followed-some _ (tokens_within k text) t e))
+      (next.after, next.token.some, in_order k text t.to next.token.within)
 ]
 
 -- the spans of a text's tokens stand in order

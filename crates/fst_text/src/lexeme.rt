@@ -34,7 +34,11 @@ fn number_len(bytes: &[u8]) -> usize
 fn kind_of(name: &[u8]) -> Kind
     ensures { result ≡ kind_of name.now }
 {
-    if is_word(name) { Kind::Word } else { Kind::Ident }
+    if is_word(name) {
+        Kind::Word
+    } else {
+        Kind::Ident
+    }
 }
 
 /// The longest token at the front: its kind and how many bytes it has.

@@ -6,11 +6,10 @@ mod character;
 mod lexeme;
 mod mark;
 mod scanner;
-mod token;
-mod word;
-
 #[cfg(test)]
 mod tests;
+mod token;
+mod word;
 
 pub use scanner::Scanner;
 pub use token::{Kind, Token};

@@ -3,21 +3,28 @@ ghost use Rattle.std.specs.List.{list_any};
 ghost use Rattle.fst_text.specs.Words.{reserved, held, is_word};
 
 static WORDS_OF_2: [&[u8]; 4] = [b"to", b"by", b"in", b"if"];
+
 static WORDS_OF_3: [&[u8]; 16] = [
-    b"fun", b"let", b"end", b"int", b"fst", b"snd", b"inl", b"inr", b"len", b"not", b"DIV",
-    b"and", b"min", b"max", b"abs", b"use",
+    b"fun", b"let", b"end", b"int", b"fst", b"snd", b"inl", b"inr", b"len", b"not", b"DIV", b"and",
+    b"min", b"max", b"abs", b"use",
 ];
+
 static WORDS_OF_4: [&[u8]; 13] = [
     b"lift", b"bind", b"then", b"else", b"with", b"unit", b"bool", b"list", b"none", b"some",
     b"true", b"PURE", b"laws",
 ];
+
 static WORDS_OF_5: [&[u8]; 6] = [b"input", b"ghost", b"match", b"reify", b"false", b"GHOST"];
+
 static WORDS_OF_6: [&[u8]; 9] = [
     b"effect", b"result", b"return", b"assert", b"unfold", b"option", b"either", b"forall",
     b"module",
 ];
+
 static WORDS_OF_7: [&[u8]; 2] = [b"reflect", b"ensures"];
+
 static WORDS_OF_8: [&[u8]; 1] = [b"requires"];
+
 static WORDS_OF_9: [&[u8]; 2] = [b"decreases", b"interface"];
 
 /// The words of this length.

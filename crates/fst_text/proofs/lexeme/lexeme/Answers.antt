@@ -1,4 +1,4 @@
-use Rattle.std.proofs.Common.{◌≡◌, sym, ◌∙◌, arith}
+use Rattle.std.proofs.Common.{◌≡◌, sym, arith}
 use Rattle.fst_text.specs.Characters.{name_len}
 use Rattle.fst_text.specs.Marks.{mark_len}
 use Rattle.fst_text.proofs.LexemeLemmas.{number_len, lexeme-name, lexeme-number, lexeme-mark, lexeme-longest, nothing-begins}
@@ -9,7 +9,6 @@ returns-then-name-gt0-clause-value c = lexeme-name _ _ _ c.name_len-name.ensures
 
 pub returns-then-name-gt0-clause-longest : goal.returns-then-name-gt0-clause-longest
 returns-then-name-gt0-clause-longest c = lexeme-longest _ _ (sym (returns-then-name-gt0-clause-value c))
-
 
 pub returns-then-number-gt0-clause-longest : goal.returns-then-number-gt0-clause-longest
 returns-then-number-gt0-clause-longest c =
