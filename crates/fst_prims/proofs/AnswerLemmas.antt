@@ -3,8 +3,8 @@ use Rattle.std.proofs.Common.{ℕ, ◌+◌, ◌<◌, ◌^◌, Bool, true, false,
 use Rattle.std.proofs.lemmas.Bool.{false≢true}
 use Rattle.std.proofs.lemmas.Int.{ints}
 use Rattle.fst_base.specs.Sorts.{Srt}
-use Rattle.fst_base.specs.Values.{Val, v_bool, v_int, chain, plain_value, same}
-use Rattle.fst_base.specs.Primitives.{In128, in128, is_wide, len_of}
+use Rattle.fst_base.specs.Values.{Val, v_bool, v_int, chain, plain_value}
+use Rattle.fst_base.specs.Primitives.{In128, is_wide, len_of}
 use Rattle.fst_base.specs.declared.op.Op.TheVariants as op
 use Rattle.fst_base.specs.declared.value.Value.{Value}
 use Rattle.fst_base.specs.declared.value.Value as W

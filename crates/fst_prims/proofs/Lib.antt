@@ -2,3 +2,4 @@ pub mod TableLemmas
 pub mod RangeLemmas
 pub mod FitLemmas
 pub mod AnswerLemmas
+pub mod Made

@@ -1,5 +1,5 @@
 -- Values that are no numbers outside 128 bits.
-use Rattle.std.proofs.Common.{ℤ, ◌≡◌, false, List, [], ◌∷◌, map, refl, sym, ap, ◌∙◌, rules}
+use Rattle.std.proofs.Common.{ℤ, ◌≡◌, false, List, [], ◌∷◌, map, refl, ap, ◌∙◌, rules}
 use Rattle.fst_base.specs.Values.{Val, chain, plain_value, default_of}
 use Rattle.fst_base.specs.Sorts.{Srt, s_unit, s_bool, s_int, s_a, s_b, s_pair, s_opt, s_list, s_either}
 use Rattle.fst_base.specs.Primitives.{is_wide}
