@@ -1,0 +1,41 @@
+-- The equations of elaboration, a variant of the tree at a time.
+use Rattle.std.proofs.Common.{◌≡◌, ℕ, ℤ, Bool, List, [], ◌∷◌, map, Option, Some, None, refl, sym, ap, ◌∙◌, rules}
+use Rattle.fst_base.specs.declared.op.Op.{Op}
+use Rattle.fst_base.specs.declared.op.Op.TheVariants as op
+use Rattle.fst_base.specs.declared.place.Pos.{Pos}
+use Rattle.fst_terms.specs.Terms.{t_bool, t_unit}
+use Rattle.fst_base.specs.Sorts.{s_bool, s_unit}
+use Rattle.fst_reader.specs.declared.word.Word.{Word}
+use Rattle.fst_reader.specs.declared.form.Form.{Form}
+use Rattle.fst_reader.specs.declared.form.FormNode as D
+use Rattle.fst_reader.specs.declared.form.FormNode.TheVariants as V
+use Rattle.fst_reader.specs.declared.form.FormNode.{FormNode}
+use Rattle.fst_top.specs.Elaboration.{Typed, typed, Scope, variable, equation_of, if_of, given_some, term_of}
+
+-- the form of a node at a place
+abbrev form : Pos → FormNode Word → Form Word
+form at node = record { at = at; node = node }
+
+pub term-Ident : (at : Pos) (w : Word) (xs : Scope) → term_of (form at (V.Ident w)) xs ≡ variable 0 xs w.text
+term-Ident at w xs = search (rules, D.the_lemmas)
+
+pub term-If : (at : Pos) (c x y : Form Word) (xs : Scope) → term_of (form at (V.If c x y)) xs ≡ given_some (term_of c xs) (λ s. given_some (term_of x xs) (λ t. given_some (term_of y xs) (λ u. if_of s t u)))
+term-If at c x y xs = search (rules, D.the_lemmas)
+
+pub term-Eq : (at : Pos) (x y : Form Word) (xs : Scope) → term_of (form at (V.Prim op.Eq (x ∷ y ∷ []))) xs ≡ given_some (term_of x xs) (λ t. given_some (term_of y xs) (λ u. equation_of at.at t u))
+term-Eq at x y xs = search (rules, D.the_lemmas)
+
+pub term-Bool : (at : Pos) (b : Bool) (xs : Scope) → term_of (form at (V.Bool b)) xs ≡ typed (t_bool b) s_bool
+term-Bool at b xs = search (rules, D.the_lemmas)
+
+pub term-Unit : (at : Pos) (xs : Scope) → term_of (form at V.Unit) xs ≡ typed t_unit s_unit
+term-Unit at xs = search (rules, D.the_lemmas)
+
+pub term-Int : (at : Pos) (n : ℤ) (xs : Scope) → term_of (form at (V.Int n)) xs ≡ None
+term-Int at n xs = search (rules, D.the_lemmas)
+
+pub term-App : (at : Pos) (w : Word) (fs : List (Form Word)) (xs : Scope) → term_of (form at (V.App w fs)) xs ≡ None
+term-App at w fs xs = search (rules, D.the_lemmas)
+
+pub term-Let : (at : Pos) (w : Word) (x y : Form Word) (xs : Scope) → term_of (form at (V.Let w x y)) xs ≡ None
+term-Let at w x y xs = search (rules, D.the_lemmas)
