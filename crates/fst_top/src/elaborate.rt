@@ -2,4 +2,5 @@
 
 mod scope;
 mod stop;
+mod terms;
 mod typed;
