@@ -26,7 +26,7 @@ same_bool-decides true false = decided-no refl (λ e. cc)
 same_bool-decides false true = decided-no refl (λ e. cc)
 same_bool-decides false false = (λ _. refl, λ _. refl)
 
-same_op-decides : (o p : Op) → Decides (same_op o p) (o ≡ p)
+pub same_op-decides : (o p : Op) → Decides (same_op o p) (o ≡ p)
 same_op-decides o p = (same_true the_type (search rules) o p, true_same the_type o p)
 
 pub same_name-decides : (xs ys : List ℕ) → Decides (same_name xs ys) (xs ≡ ys)
