@@ -1,9 +1,10 @@
 -- The shelves and sinks in memory.
-use Rattle.std.specs.Prelude.{ℕ, ◌+◌, ◌==◌, nat_lt, List, [], ◌∷◌, ◌++◌, Option, Some, None, Result, Ok, Err, length, bytes_eq, unwrap_or, if◌then◌else◌}
+use Rattle.std.specs.Prelude.{ℕ, ◌+◌, ◌-◌, ◌^◌, ◌==◌, min, nat_lt, List, [], ◌∷◌, ◌++◌, Option, Some, None, Result, Ok, Err, length, take, bytes_eq, unwrap_or, if◌then◌else◌}
 use Rattle.std.specs.List.{list_any}
 use Rattle.fst_outside.specs.declared.fault.FetchFault.{FetchFault}
 use Rattle.fst_outside.specs.declared.fault.FetchFault.TheVariants.{Failed, TooLong, NoMemory}
 use Rattle.fst_outside.specs.declared.file.File.{File}
+use Rattle.fst_outside.specs.declared.memory_sink.Fail.{Fail}
 
 -- the bytes of the first file of the name
 abbrev pub bytes_of : List File → List ℕ → Option (List ℕ)
@@ -47,3 +48,37 @@ fetched_once s name result = record s { fetched = s.fetched ++ name ∷ []; faul
 pub record SteadyState : Type 0 where
   pub files : List File
   pub fetched : List (List ℕ)
+
+-- how many bytes the call of this number keeps, where it is to fail: the first entry of a call counts
+abbrev pub kept_of : List Fail → ℕ → Option ℕ
+kept_of [] call = None
+kept_of (fail ∷ failing) call = if fail.call == call then Some fail.kept else kept_of failing call
+
+-- the number of the call after this one; it stays at the last number of 64 bits
+abbrev pub next_call : ℕ → ℕ
+next_call call = min (call + 1) (2 ^ 64 - 1)
+
+-- the number of calls, which is told below the last number
+abbrev pub calls_told : ℕ → Option ℕ
+calls_told calls = if nat_lt calls (2 ^ 64 - 1) then Some calls else None
+
+-- a sink in memory; its calls are numbered from 0
+pub record SinkState : Type 0 where
+  pub failing : List Fail
+  pub written : List ℕ
+  pub calls : ℕ
+  pub faults : ℕ
+
+-- the sink after a put that keeps so many bytes and fails, or keeps the piece
+abbrev pub put_keeping : Option ℕ → SinkState → List ℕ → SinkState
+put_keeping None s piece = record s { written = s.written ++ piece; calls = next_call s.calls }
+put_keeping (Some kept) s piece = record s { written = s.written ++ take kept piece; calls = next_call s.calls; faults = s.faults + 1 }
+
+-- the sink after a put, if there is memory
+abbrev pub put_once : SinkState → List ℕ → SinkState
+put_once s piece = put_keeping (kept_of s.failing s.calls) s piece
+
+-- a sink that never fails
+pub record SteadySinkState : Type 0 where
+  pub written : List ℕ
+  pub calls : ℕ
