@@ -2,7 +2,7 @@
 use Rattle.std.specs.Prelude.{ℕ, ◌+◌, ◌-◌, ◌^◌, ◌==◌, min, nat_lt, List, [], ◌∷◌, ◌++◌, Option, Some, None, Result, Ok, Err, length, take, bytes_eq, unwrap_or, if◌then◌else◌}
 use Rattle.std.specs.List.{list_any}
 use Rattle.fst_outside.specs.declared.fault.FetchFault.{FetchFault}
-use Rattle.fst_outside.specs.declared.fault.FetchFault.TheVariants.{Failed, TooLong, NoMemory}
+use Rattle.fst_outside.specs.declared.fault.FetchFault.TheVariants.{Failed, TooLong}
 use Rattle.fst_outside.specs.declared.file.File.{File}
 use Rattle.fst_outside.specs.declared.memory_sink.Fail.{Fail}
 

@@ -4,10 +4,9 @@ use crate::fault::FetchFault;
 use crate::shelf::Shelf;
 use fst_base::Seq;
 use std::alloc::Global;
-use std::fs;
-use std::io;
 use std::io::{ErrorKind, Read};
 use std::rt::Files;
+use std::{fs, io};
 
 /// The files of the folder that the program runs in. It tells no content; each error of the system raises the count
 /// of faults, which stays at its last value.
@@ -34,7 +33,9 @@ impl<'a, R: Files> FolderShelf<'a, R> {
     {
         let mut bytes = Vec::new(alloc);
         let file = fs::open(self.rt, name)?;
-        let read = file.take((limit as u64).saturating_add(1)).read_to_end(&mut bytes);
+        let read = file
+            .take((limit as u64).saturating_add(1))
+            .read_to_end(&mut bytes);
         self.bytes_read = bytes.len();
         read?;
         Ok(bytes)

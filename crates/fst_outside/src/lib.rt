@@ -11,7 +11,6 @@ mod shelf;
 mod sink;
 mod steady_shelf;
 mod steady_sink;
-
 #[cfg(test)]
 mod tests;
 

@@ -82,7 +82,8 @@ impl Sink for MemorySink {
             }
             Some(_) if self.faults == MOST_FAULTS => Err(PutFault::NoMemory),
             Some(kept) => {
-                self.written.extend_from_slice(&piece[..kept.min(piece.len())])?;
+                self.written
+                    .extend_from_slice(&piece[..kept.min(piece.len())])?;
                 self.faults += 1;
                 Err(PutFault::Failed)
             }

@@ -34,8 +34,14 @@ fn a_memory_shelf_holds_files(rt: HostRuntime) -> Result<(), Failure> {
     let alloc = rt.alloc();
     let mut shelf = MemoryShelf::new(alloc, one_file(alloc)?, Seq::from_slice(alloc, &[3])?);
     let failed = Err(FetchFault::Failed);
-    assert_eq!(rt; fetches(alloc, &mut shelf), [Ok(3), failed, Err(FetchFault::TooLong)]);
-    assert_eq!(rt; fetches(alloc, &mut shelf), [failed, failed, Err(FetchFault::TooLong)]);
+    assert_eq!(rt;
+        fetches(alloc, &mut shelf),
+        [Ok(3), failed, Err(FetchFault::TooLong)]
+    );
+    assert_eq!(rt;
+        fetches(alloc, &mut shelf),
+        [failed, failed, Err(FetchFault::TooLong)]
+    );
     Ok(())
 }
 
@@ -43,7 +49,10 @@ fn a_memory_shelf_holds_files(rt: HostRuntime) -> Result<(), Failure> {
 fn a_steady_shelf_never_fails(rt: HostRuntime) -> Result<(), Failure> {
     let alloc = rt.alloc();
     let mut shelf = SteadyShelf::new(alloc, one_file(alloc)?);
-    assert_eq!(rt; fetches(alloc, &mut shelf), [Ok(3), Ok(0), Err(FetchFault::TooLong)]);
+    assert_eq!(rt;
+        fetches(alloc, &mut shelf),
+        [Ok(3), Ok(0), Err(FetchFault::TooLong)]
+    );
     Ok(())
 }
 
@@ -67,7 +76,10 @@ fn a_steady_sink_never_fails(rt: HostRuntime) {
 fn a_folder_shelf_reads_files(rt: HostRuntime) -> Result<(), Failure> {
     fs::write(&rt, "a.fst", "fun")?;
     let found = fetches(rt.alloc(), &mut FolderShelf::new(&rt));
-    assert_eq!(rt; found, [Ok(3), Err(FetchFault::Failed), Err(FetchFault::TooLong)]);
+    assert_eq!(rt;
+        found,
+        [Ok(3), Err(FetchFault::Failed), Err(FetchFault::TooLong)]
+    );
     Ok(())
 }
 

@@ -1,5 +1,5 @@
 use Rattle.std.proofs.Common.{ap, ◌∙◌, inr}
-use Rattle.fst_outside.specs.Memory.{ShelfState, bytes_of, held_up_to}
+use Rattle.fst_outside.specs.Memory.{ShelfState}
 use Rattle.fst_outside.proofs.ShelfLemmas.{answer-listed, answer-held}
 use Rattle.fst_outside.proofs.memory_shelf.MemoryShelf.answer.Goals as goal
 
