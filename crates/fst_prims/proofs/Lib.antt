@@ -1,0 +1,5 @@
+pub mod TableLemmas
+pub mod RangeLemmas
+pub mod FitLemmas
+pub mod AnswerLemmas
+pub mod Made
