@@ -1,17 +1,15 @@
 -- Induction over terms; a term's plain tree tells the term.
-use Rattle.std.proofs.Common.{ℕ, ℤ, Bool, List, [], ◌∷◌, ◌≡◌, refl, sym, ap, ap₂, ◌∙◌, subst, All}
+use Rattle.std.proofs.Common.{ℕ, ℤ, Bool, List, [], ◌∷◌, ◌≡◌, refl, sym, ap, ap₂, ◌∙◌, subst, map, All}
 use Rattle.std.proofs.lemmas.List.Elements.{All-nil, All-cons, All-head, All-tail}
-use denote.Hole.Carrier.{hidden, out}
-use mathlib.Core.Former.{Count, list_count, this, none_left}
 use Rattle.fst_base.specs.declared.op.Op.{Op}
 use Rattle.fst_base.specs.declared.place.Pos.{Pos}
 use Rattle.fst_base.specs.declared.sort.Sort.{Sort}
 use Rattle.fst_base.proofs.SortLemmas.{sort_of_plain, sort-back}
 use Rattle.fst_terms.specs.Terms.{Tm, Tms, t_var, t_int, t_bool, t_unit, t_prim, t_if, t_app, t_let, t_end, t_more, plain_term, plain_terms}
-use Rattle.fst_terms.specs.declared.term.Term as D
-use Rattle.fst_terms.specs.declared.term.Term.{Term, items-the_row-Term}
+use Rattle.fst_terms.specs.declared.term.Term.{Term, roll-Term, map-Term, ind-Term}
 use Rattle.fst_terms.specs.declared.term.Term.TheVariants as T
-use Rattle.fst_terms.specs.declared.term.Term.TheBlock as DB
+use Rattle.fst_terms.specs.declared.term.Term.TheOpen as TF
+use Rattle.fst_terms.specs.declared.term.Term.TheOpen.{Term-F}
 use Rattle.fst_terms.proofs.PlainLemmas.{plain-term-Var, plain-term-Int, plain-term-Bool, plain-term-Unit, plain-term-Prim, plain-term-If, plain-term-App, plain-term-Let}
 
 module _ (P : Term → Type 0) where
@@ -26,30 +24,26 @@ module _ (P : Term → Type 0) where
     pub at_app : (k : ℕ) (S : Sort) (ts : List Term) → All P ts → P (T.App k S ts)
     pub at_let : (x : List ℕ) (t u : Term) → P t → P u → P (T.Let x t u)
 
-  of_prim : (o : Op) (S : Sort) (i : _) (ts : D.Row_of-Term (list_count this i none_left)) (p : Pos) → P (T.Prim o S (DB.shown-the_row-Term-0 i ts) p) → P (D.Prim' o S i ts p)
-  unfolding D.out-Term out
-  of_prim o S i ts p h = subst P (sym (T.rolls-Prim _ _ _ _) ∙ D.roll-out-Term (D.Prim' o S i ts p)) h
+  -- a part that P holds for
+  abbrev Known : Type 0
+  Known = (t : Term) × P t
 
-  of_app : (k : ℕ) (S : Sort) (i : _) (ts : D.Row_of-Term (list_count this i none_left)) → P (T.App k S (DB.shown-the_row-Term-0 i ts)) → P (D.App' k S i ts)
-  unfolding D.out-Term out
-  of_app k S i ts h = subst P (sym (T.rolls-App _ _ _) ∙ D.roll-out-Term (D.App' k S i ts)) h
+  all_known : (ts : List Known) → All P (map (λ t. t.0) ts)
+  all_known [] = All-nil P
+  all_known (t ∷ ts) = All-cons P t.0 _ t.1 (all_known ts)
 
-  mutual
-    unfolding DB.hidden-the_row-Term-1 DB.shape-the_row-Term-1 hidden
+  step : TermSteps → (y : Term-F Known) → P (roll-Term (map-Term Known Term (λ t. t.0) y))
+  step s (TF.Var i) = subst P (sym (T.rolls-Var i)) (s.at_var i)
+  step s (TF.Int n) = subst P (sym (T.rolls-Int n)) (s.at_int n)
+  step s (TF.Bool b) = subst P (sym (T.rolls-Bool b)) (s.at_bool b)
+  step s TF.Unit = subst P (sym T.rolls-Unit) s.at_unit
+  step s (TF.Prim o S ts p) = subst P (sym (T.rolls-Prim o S _ p)) (s.at_prim o S _ p (all_known ts))
+  step s (TF.If c t u) = subst P (sym (T.rolls-If c.0 t.0 u.0)) (s.at_if c.0 t.0 u.0 c.1 t.1 u.1)
+  step s (TF.App k S ts) = subst P (sym (T.rolls-App k S _)) (s.at_app k S _ (all_known ts))
+  step s (TF.Let x t u) = subst P (sym (T.rolls-Let x t.0 u.0)) (s.at_let x t.0 u.0 t.1 u.1)
 
-    pub term_by_parts : TermSteps → (t : Term) → P t
-    term_by_parts s (D.Var i) = s.at_var i
-    term_by_parts s (D.Int n) = s.at_int n
-    term_by_parts s (D.Bool b) = s.at_bool b
-    term_by_parts s D.Unit = s.at_unit
-    term_by_parts s (D.Prim' o S i ts p) = of_prim o S i ts p (s.at_prim o S _ p (subst (All P) (sym (D.items_shown-the_row-Term-0 i ts)) (by_row s _ ts)))
-    term_by_parts s (D.If' i (D.more_of-Term c D.end_of-Term) j (D.more_of-Term t D.end_of-Term) k (D.more_of-Term u D.end_of-Term)) = s.at_if c t u (term_by_parts s c) (term_by_parts s t) (term_by_parts s u)
-    term_by_parts s (D.App' k S i ts) = of_app k S i ts (s.at_app k S _ (subst (All P) (sym (D.items_shown-the_row-Term-0 i ts)) (by_row s _ ts)))
-    term_by_parts s (D.Let' x i (D.more_of-Term t D.end_of-Term) j (D.more_of-Term u D.end_of-Term)) = s.at_let x t u (term_by_parts s t) (term_by_parts s u)
-
-    by_row : TermSteps → (n : Count) (items : D.Row_of-Term n) → All P (items-the_row-Term n items)
-    by_row s n D.end_of-Term = All-nil P
-    by_row s n (D.more_of-Term t ts) = All-cons P t _ (term_by_parts s t) (by_row s _ ts)
+  pub term_by_parts : TermSteps → (t : Term) → P t
+  term_by_parts s = ind-Term P (λ x y is. subst (λ z. P (roll-Term z)) is (step s y))
 
 -- the term of a plain tree
 abbrev mutual
@@ -89,6 +83,10 @@ term-back = term_by_parts Back (record {
   at_app = λ k S ts h. ap term_of_plain (plain-term-App k S ts) ∙ ap₂ (T.App k) (sort-back S) (rows-back ts h);
   at_let = λ x t u p q. ap term_of_plain (plain-term-Let x t u) ∙ ap₂ (T.Let x) p q;
 })
+
+pub terms-back : (ts : List Term) → terms_of_plain (plain_terms ts) ≡ ts
+terms-back [] = refl
+terms-back (t ∷ ts) = ap₂ ◌∷◌ (term-back t) (terms-back ts)
 
 -- two terms with one plain tree are equal
 pub term-injective : (t u : Term) → plain_term t ≡ plain_term u → t ≡ u
