@@ -1,5 +1,5 @@
 -- A numeral past 128 bits.
-use Rattle.std.proofs.Common.{◌≡◌, ℕ, List, Bool, true, Some, None, Ok, refl, sym, ap, subst, ◌∙◌}
+use Rattle.std.proofs.Common.{◌≡◌, ℕ, List, Bool, true, Some, None, Ok, sym, ap, ◌∙◌}
 use Rattle.std.specs.Str.Parse.{digits_value}
 use Rattle.fst_base.specs.Primitives.{In128}
 use Rattle.fst_base.specs.Sorts.{s_int}

@@ -4,3 +4,8 @@ pub mod ReadingLemmas
 pub mod ItemLemmas
 pub mod IntegerLemmas
 pub mod FormLemmas
+pub mod Fronts
+pub mod WholeLemmas
+pub mod DigitLemmas
+pub mod ListLemmas
+pub mod PrintedLemmas

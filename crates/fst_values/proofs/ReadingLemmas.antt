@@ -1,11 +1,11 @@
 -- The reading finds the texts and nothing else.
-use Rattle.std.proofs.Common.{◌≡◌, ◌≢◌, ℕ, zero, suc, ◌+◌, ◌<◌, ◌≤◌, Bool, true, false, cond, ◌==◌, ◌⊎◌, inl, inr, List, [], ◌∷◌, length, drop, take_while, ℤ, pos, neg_ℤ, Option, Some, None, codes, refl, sym, ap, ap₂, subst, ◌∙◌, arith, length-drop, nat_eq, eqb}
+use Rattle.std.proofs.Common.{◌≡◌, ℕ, zero, suc, ◌<◌, ◌≤◌, Bool, true, false, cond, ◌==◌, ◌⊎◌, inl, inr, List, [], ◌∷◌, length, drop, take_while, ℤ, pos, neg_ℤ, Option, Some, None, codes, refl, sym, ap, ap₂, subst, ◌∙◌, arith, length-drop}
 use Rattle.std.proofs.lemmas.Bool.{false≢true}
 use Rattle.std.proofs.lemmas.Bool.Decides.{nat_tests}
 use Rattle.std.proofs.lemmas.List.Sums.{take_while-cons}
 use Rattle.std.specs.Char.{is_ascii_alphanumeric}
 use Rattle.std.specs.Cmp.Lexicographic.{pointwise, same_text}
-use Rattle.std.specs.Str.Parse.{IsNumeral, digits_value}
+use Rattle.std.specs.Str.Parse.{digits_value}
 use Rattle.fst_base.specs.Sorts.{Srt, s_unit, s_bool, s_int, s_a, s_b, s_pair, s_opt, s_list, s_either}
 use Rattle.fst_base.specs.Values.{Val, v_unit, v_bool, v_int, v_pair, v_none, v_some, v_nil, v_cons, v_inl, v_inr, Has}
 use Rattle.fst_values.specs.Tokens.{is_blank, skip, word, after_word, Mark, Word, Numeral}
@@ -15,7 +15,7 @@ use Rattle.fst_values.proofs.NumberLemmas.{numeral-is, is-numeral}
 
 -- ---- inversions
 
-some-is : {A : Type 0} (x y : A) → ◌≡◌ {A = Option A} (Some x) (Some y) → x ≡ y
+pub some-is : {A : Type 0} (x y : A) → ◌≡◌ {A = Option A} (Some x) (Some y) → x ≡ y
 some-is x y e = cc
 
 pub bound : {A B : Type 0} (o : Option A) (f : A → Option B) (x : B) → o >>= f ≡ Some x → (a : A) × ((o ≡ Some a) × (f a ≡ Some x))
