@@ -9,7 +9,7 @@ use Rattle.fst_values.specs.declared.fault.ValueFault.TheVariants.{NotAValue}
 use Rattle.fst_values.specs.Tokens.{skip}
 use Rattle.fst_values.specs.Texts.{Text, IsText}
 use Rattle.fst_values.specs.Reading.{reads, Part, Gives}
-use Rattle.fst_values.proofs.ReadingLemmas.{sound, complete, text-has, some-is}
+use Rattle.fst_values.proofs.ReadingLemmas.{sound, complete, text-has, some-is, one_value}
 
 module _ (S : Srt) (bytes start rest : List ℕ) (at : start ≡ skip bytes) where
   -- a text is read to its end
@@ -30,6 +30,10 @@ module _ (S : Srt) (bytes start rest : List ℕ) (at : start ≡ skip bytes) whe
 
   pub text_read : (part : Option Value) (v : Value) → Gives (reads S start) (Ok part) rest → rest ≡ [] → part ≡ Some v → IsText S (plain_value v) bytes
   text_read part v h e f = let p : Part h.0 (Some v) = subst (Part h.0) f h.1.1 in subst (λ w. IsText S w bytes) (sym p.0) (whole part h e)
+
+  pub only_read : (part : Option Value) (v : Value) → Gives (reads S start) (Ok part) rest → rest ≡ [] → part ≡ Some v
+      → (w : Val) → IsText S w bytes → w ≡ plain_value v
+  only_read part v h e f w t = one_value S w (plain_value v) bytes t (text_read part v h e f)
 
   pub sort_read : (part : Option Value) (v : Value) → Gives (reads S start) (Ok part) rest → rest ≡ [] → part ≡ Some v → Has S (plain_value v)
   sort_read part v h e f = text-has S (plain_value v) (skip bytes) [] (text_read part v h e f)

@@ -13,6 +13,8 @@ use std::alloc::Global;
 /// The value of the sort that the bytes are a text of. No text has a sort that holds a variable.
 pub fn read_value(alloc: Global, bytes: &[u8], sort: &Sort) -> Result<Value, ValueFault>
     ensures value { IfOk result (λ v. IsText (plain_sort sort.now) (plain_value v) bytes.now) }
+    ensures only { IfOk result (λ v.
+        (w : Val) → IsText (plain_sort sort.now) w bytes.now → w ≡ plain_value v) }
     ensures sort { IfOk result (λ v. Has (plain_sort sort.now) (plain_value v)) }
     ensures in_range { IfOk result (λ v. InRange (plain_value v)) }
     ensures too_wide { result ≡ Err ValueFault.NumberTooWide
