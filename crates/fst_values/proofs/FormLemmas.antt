@@ -8,7 +8,7 @@ use Rattle.fst_values.specs.declared.fault.ValueFault.{ValueFault}
 use Rattle.fst_values.specs.Tokens.{word}
 use Rattle.fst_values.specs.Texts.{open_round, close_round, comma, open_square, close_square}
 use Rattle.fst_values.specs.Reading.{starts, after_mark, expected, is_word, past_word, Found, within, items, reads, Part, Gives}
-use Rattle.fst_values.proofs.ReadingLemmas.{goes, chooses, passes}
+use Rattle.fst_values.proofs.StepLemmas.{goes, chooses, passes}
 
 along : (o p : Found) (r : Result (Option Value) ValueFault) (to : List ℕ) → o ≡ p → Gives p r to → Gives o r to
 along o p r to e h = subst (λ q. Gives q r to) (sym e) h

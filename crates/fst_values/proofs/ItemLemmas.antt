@@ -7,7 +7,9 @@ use Rattle.fst_values.specs.declared.fault.ValueFault.TheVariants.{NotAValue, No
 use Rattle.fst_values.specs.declared.fault.ValueFault.{ValueFault}
 use Rattle.fst_values.specs.Texts.{close_square, semicolon}
 use Rattle.fst_values.specs.Reading.{◌>>=◌, starts, after_mark, expected, Found, within, items, reads, Part, Parts, Gives, Expects}
-use Rattle.fst_values.proofs.ReadingLemmas.{sound, text-le, goes, goes_none, chooses, passes, expected-shorter}
+use Rattle.fst_values.proofs.SoundLemmas.{sound}
+use Rattle.fst_values.proofs.LengthLemmas.{text-le, expected-shorter}
+use Rattle.fst_values.proofs.StepLemmas.{goes, goes_none, chooses, passes}
 
 -- what is found, with these values before it
 pub prepended : List Val → Found → Found

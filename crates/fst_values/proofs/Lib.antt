@@ -1,6 +1,12 @@
 pub mod NumberLemmas
 pub mod PartLemmas
-pub mod ReadingLemmas
+pub mod StepLemmas
+pub mod TokenLemmas
+pub mod SoundLemmas
+pub mod LengthLemmas
+pub mod StartLemmas
+pub mod CompleteLemmas
+pub mod HasLemmas
 pub mod ItemLemmas
 pub mod IntegerLemmas
 pub mod FormLemmas

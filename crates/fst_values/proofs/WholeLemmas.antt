@@ -9,7 +9,10 @@ use Rattle.fst_values.specs.declared.fault.ValueFault.TheVariants.{NotAValue}
 use Rattle.fst_values.specs.Tokens.{skip}
 use Rattle.fst_values.specs.Texts.{Text, IsText}
 use Rattle.fst_values.specs.Reading.{reads, Part, Gives}
-use Rattle.fst_values.proofs.ReadingLemmas.{sound, complete, text-has, some-is, one_value}
+use Rattle.fst_values.proofs.SoundLemmas.{sound}
+use Rattle.fst_values.proofs.CompleteLemmas.{complete, one_value}
+use Rattle.fst_values.proofs.HasLemmas.{text-has}
+use Rattle.fst_values.proofs.StepLemmas.{some-is}
 
 module _ (S : Srt) (bytes start rest : List ℕ) (at : start ≡ skip bytes) where
   -- a text is read to its end

@@ -24,45 +24,63 @@ fn either_of(alloc: Global, left: Sort, right: Sort) -> Result<Sort, OutOfMemory
     Ok(Sort::Either(left, Box::new(alloc, right)?))
 }
 
-/// The text is read at the sort, and the value prints as given; so does the value of that text.
-fn reads(
+/// Each text is read at the sort, and its value prints as given; so does the value of that text.
+fn all_read(
     rt: &impl Abort,
     alloc: Global,
     sort: &Sort,
-    text: &str,
-    printed: &str,
+    rows: &[(&str, &str)],
 ) -> Result<(), Fail> {
-    let value = read_value(alloc, text.as_bytes(), sort)?;
-    let mut out = Seq::new(alloc);
-    print_value(&value, &mut out)?;
-    assert!(rt; out.as_slice() == printed.as_bytes(), "{text}");
-    let again = read_value(alloc, printed.as_bytes(), sort)?;
-    assert!(rt; again.same(&value), "{text}");
+    for (text, printed) in rows {
+        let value = read_value(alloc, text.as_bytes(), sort)?;
+        let mut out = Seq::new(alloc);
+        print_value(&value, &mut out)?;
+        assert!(rt; out.as_slice() == printed.as_bytes(), "{text}");
+        let again = read_value(alloc, printed.as_bytes(), sort)?;
+        assert!(rt; again.same(&value), "{text}");
+    }
     Ok(())
 }
 
-fn refuses(rt: &impl Abort, alloc: Global, sort: &Sort, text: &str) {
-    let answer = read_value(alloc, text.as_bytes(), sort);
-    assert!(rt; matches!(&answer, Err(ValueFault::NotAValue)), "{text}");
+fn all_refused(rt: &impl Abort, alloc: Global, sort: &Sort, texts: &[&str]) {
+    for text in texts {
+        let answer = read_value(alloc, text.as_bytes(), sort);
+        assert!(rt; matches!(&answer, Err(ValueFault::NotAValue)), "{text}");
+    }
 }
 
-fn is_too_wide(rt: &impl Abort, alloc: Global, sort: &Sort, text: &str) {
-    let answer = read_value(alloc, text.as_bytes(), sort);
-    assert!(rt; matches!(&answer, Err(ValueFault::NumberTooWide)), "{text}");
+fn all_too_wide(rt: &impl Abort, alloc: Global, sort: &Sort, texts: &[&str]) {
+    for text in texts {
+        let answer = read_value(alloc, text.as_bytes(), sort);
+        assert!(rt; matches!(&answer, Err(ValueFault::NumberTooWide)), "{text}");
+    }
 }
 
 #[test]
-fn units_and_truths(rt: HostRuntime) -> Result<(), Fail> {
-    let alloc = rt.alloc();
-    for text in ["()", " ( ) ", "\t(\n)\r\n"] {
-        reads(&rt, alloc, &Sort::Unit, text, "()")?;
-    }
-    for text in ["", "(", ")", "() ()", "(())", "()x", "true"] {
-        refuses(&rt, alloc, &Sort::Unit, text);
-    }
-    reads(&rt, alloc, &Sort::Bool, "true", "true")?;
-    reads(&rt, alloc, &Sort::Bool, "\n false\t", "false")?;
-    for text in [
+fn units(rt: HostRuntime) -> Result<(), Fail> {
+    let sort = Sort::Unit;
+    let rows = [("()", "()"), (" ( ) ", "()"), ("\t(\n)\r\n", "()")];
+    all_read(&rt, rt.alloc(), &sort, &rows)?;
+    all_refused(
+        &rt,
+        rt.alloc(),
+        &sort,
+        &["", "(", ")", "() ()", "(())", "()x", "true"],
+    );
+    all_refused(&rt, rt.alloc(), &Sort::VarA, &["()"]);
+    Ok(())
+}
+
+#[test]
+fn truths(rt: HostRuntime) -> Result<(), Fail> {
+    let sort = Sort::Bool;
+    all_read(
+        &rt,
+        rt.alloc(),
+        &sort,
+        &[("true", "true"), ("\n false\t", "false")],
+    )?;
+    let refused = [
         "",
         "True",
         "truefalse",
@@ -71,35 +89,29 @@ fn units_and_truths(rt: HostRuntime) -> Result<(), Fail> {
         "true,",
         "1",
         "tr ue",
-    ] {
-        refuses(&rt, alloc, &Sort::Bool, text);
-    }
-    refuses(&rt, alloc, &Sort::VarA, "()");
+    ];
+    all_refused(&rt, rt.alloc(), &sort, &refused);
     Ok(())
 }
 
+const GREATEST: &str = "170141183460469231731687303715884105727";
+
+const LEAST: &str = "-170141183460469231731687303715884105728";
+
 #[test]
 fn numbers(rt: HostRuntime) -> Result<(), Fail> {
-    let alloc = rt.alloc();
+    let sort = Sort::Int;
     let rows = [
         ("0", "0"),
         ("007", "7"),
         ("-3", "-3"),
         (" - \t3 ", "-3"),
         ("-0", "0"),
-        (
-            "170141183460469231731687303715884105727",
-            "170141183460469231731687303715884105727",
-        ),
-        (
-            "-170141183460469231731687303715884105728",
-            "-170141183460469231731687303715884105728",
-        ),
+        (GREATEST, GREATEST),
+        (LEAST, LEAST),
     ];
-    for (text, printed) in rows {
-        reads(&rt, alloc, &Sort::Int, text, printed)?;
-    }
-    for text in [
+    all_read(&rt, rt.alloc(), &sort, &rows)?;
+    let refused = [
         "",
         "-",
         "--3",
@@ -111,103 +123,90 @@ fn numbers(rt: HostRuntime) -> Result<(), Fail> {
         "1_000",
         "(3)",
         "3 // three",
-    ] {
-        refuses(&rt, alloc, &Sort::Int, text);
-    }
-    is_too_wide(
-        &rt,
-        alloc,
-        &Sort::Int,
+    ];
+    all_refused(&rt, rt.alloc(), &sort, &refused);
+    let wide = [
         "170141183460469231731687303715884105728",
-    );
-    is_too_wide(
-        &rt,
-        alloc,
-        &Sort::Int,
         "-170141183460469231731687303715884105729",
-    );
-    is_too_wide(
-        &rt,
-        alloc,
-        &Sort::Int,
         "1000000000000000000000000000000000000000000",
-    );
+    ];
+    all_too_wide(&rt, rt.alloc(), &sort, &wide);
     Ok(())
 }
 
 #[test]
-fn options_and_sides(rt: HostRuntime) -> Result<(), Fail> {
+fn options(rt: HostRuntime) -> Result<(), Fail> {
     let alloc = rt.alloc();
-    let sort = option_of(alloc, Sort::Int)?;
-    reads(&rt, alloc, &sort, "none", "none")?;
-    reads(&rt, alloc, &sort, "some 3", "some 3")?;
-    reads(&rt, alloc, &sort, "some-3", "some -3")?;
-    for text in [
-        "some3",
+    let sort = option_of(alloc, option_of(alloc, Sort::Int)?)?;
+    let rows = [
+        ("none", "none"),
+        ("some\nnone", "some none"),
+        ("some some 3", "some some 3"),
+        ("some some- 4", "some some -4"),
+    ];
+    all_read(&rt, alloc, &sort, &rows)?;
+    let refused = [
         "some",
+        "some 3",
+        "some some3",
         "none 3",
-        "some none",
-        "some 3 4",
-        "Some 3",
         "somenone",
-    ] {
-        refuses(&rt, alloc, &sort, text);
-    }
-    let sort = option_of(alloc, sort)?;
-    reads(&rt, alloc, &sort, "some some - 4", "some some -4")?;
-    reads(&rt, alloc, &sort, "some\nnone", "some none")?;
+        "some some 3 4",
+        "Some none",
+    ];
+    all_refused(&rt, alloc, &sort, &refused);
+    Ok(())
+}
+
+#[test]
+fn sides(rt: HostRuntime) -> Result<(), Fail> {
+    let alloc = rt.alloc();
     let sort = either_of(alloc, Sort::Unit, Sort::Bool)?;
-    reads(&rt, alloc, &sort, "inl()", "inl ()")?;
-    reads(&rt, alloc, &sort, "inr true", "inr true")?;
-    for text in ["inl true", "inr ()", "inrtrue", "inl", "true"] {
-        refuses(&rt, alloc, &sort, text);
-    }
+    all_read(
+        &rt,
+        alloc,
+        &sort,
+        &[("inl()", "inl ()"), ("inr  true", "inr true")],
+    )?;
+    all_refused(
+        &rt,
+        alloc,
+        &sort,
+        &["inl true", "inr ()", "inrtrue", "inl", "true"],
+    );
     Ok(())
 }
 
 #[test]
 fn pairs_and_lists(rt: HostRuntime) -> Result<(), Fail> {
     let alloc = rt.alloc();
-    let sort = pair_of(alloc, Sort::Int, Sort::Bool)?;
-    reads(&rt, alloc, &sort, "(1,true)", "(1, true)")?;
-    reads(&rt, alloc, &sort, " ( -1 , false ) ", "(-1, false)")?;
-    for text in [
-        "1, true",
-        "(1 true)",
-        "(1, true",
-        "(1, true, true)",
-        "(1; true)",
-        "(true, 1)",
-    ] {
-        refuses(&rt, alloc, &sort, text);
-    }
-    let sort = list_of(alloc, sort)?;
-    reads(&rt, alloc, &sort, "[ ]", "[]")?;
-    reads(&rt, alloc, &sort, "[(1,true)]", "[(1, true)]")?;
-    reads(
-        &rt,
-        alloc,
-        &sort,
-        "[(1,true) ;(02,false);(3,true)]",
-        "[(1, true); (2, false); (3, true)]",
-    )?;
-    for text in [
+    let sort = list_of(alloc, pair_of(alloc, Sort::Int, Sort::Bool)?)?;
+    let rows = [
+        ("[ ]", "[]"),
+        ("[(1,true)]", "[(1, true)]"),
+        ("[( -1 , false ) ;(02,true)]", "[(-1, false); (2, true)]"),
+    ];
+    all_read(&rt, alloc, &sort, &rows)?;
+    let refused = [
         "[",
         "[;]",
         "[(1, true);]",
         "[(1, true), (2, true)]",
         "[(1, true)] 2",
         "(1, true)",
-    ] {
-        refuses(&rt, alloc, &sort, text);
-    }
-    let wide = "[(1, true); (170141183460469231731687303715884105728, true)]";
-    is_too_wide(&rt, alloc, &sort, wide);
-    refuses(
+        "[1, true]",
+        "[(1 true)]",
+        "[(1, true]",
+        "[(1, true, true)]",
+        "[(true, 1)]",
+        "[(170141183460469231731687303715884105728, true); 2]",
+    ];
+    all_refused(&rt, alloc, &sort, &refused);
+    all_too_wide(
         &rt,
         alloc,
         &sort,
-        "[(170141183460469231731687303715884105728, true); 2]",
+        &["[(1, true); (170141183460469231731687303715884105728, true)]"],
     );
     Ok(())
 }
