@@ -1,5 +1,5 @@
 -- What is read at each form of a sort, from what is read of its parts.
-use Rattle.std.proofs.Common.{◌≡◌, ◌==◌, ℕ, suc, Bool, true, false, List, length, Option, Some, Result, Ok, Err, codes, refl, sym, ap, subst, ◌∙◌}
+use Rattle.std.proofs.Common.{◌≡◌, ◌==◌, ℕ, suc, Bool, true, false, List, length, Option, Some, Result, Ok, codes, sym, ap, subst, ◌∙◌}
 use Rattle.std.specs.Cmp.Lexicographic.{pointwise}
 use Rattle.fst_base.specs.Sorts.{Srt, s_pair, s_opt, s_list, s_either}
 use Rattle.fst_base.specs.Values.{Val, v_pair, v_some, v_inl, v_inr}
@@ -7,8 +7,8 @@ use Rattle.fst_base.specs.declared.value.Value.{Value}
 use Rattle.fst_values.specs.declared.fault.ValueFault.{ValueFault}
 use Rattle.fst_values.specs.Tokens.{word}
 use Rattle.fst_values.specs.Texts.{open_round, close_round, comma, open_square, close_square}
-use Rattle.fst_values.specs.Reading.{◌>>=◌, starts, after_mark, expected, is_word, past_word, Found, within, items, reads, Part, Gives}
-use Rattle.fst_values.proofs.ReadingLemmas.{goes, chooses, passes}
+use Rattle.fst_values.specs.Reading.{starts, after_mark, expected, is_word, past_word, Found, within, items, reads, Part, Gives}
+use Rattle.fst_values.proofs.StepLemmas.{goes, chooses, passes}
 
 along : (o p : Found) (r : Result (Option Value) ValueFault) (to : List ℕ) → o ≡ p → Gives p r to → Gives o r to
 along o p r to e h = subst (λ q. Gives q r to) (sym e) h

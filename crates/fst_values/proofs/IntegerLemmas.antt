@@ -1,5 +1,5 @@
 -- A numeral past 128 bits.
-use Rattle.std.proofs.Common.{◌≡◌, ℕ, List, Bool, true, Some, None, Ok, refl, sym, ap, subst, ◌∙◌}
+use Rattle.std.proofs.Common.{◌≡◌, ℕ, List, Bool, true, Some, None, Ok, sym, ap, ◌∙◌}
 use Rattle.std.specs.Str.Parse.{digits_value}
 use Rattle.fst_base.specs.Primitives.{In128}
 use Rattle.fst_base.specs.Sorts.{s_int}
@@ -7,7 +7,7 @@ use Rattle.fst_base.specs.Values.{v_int}
 use Rattle.fst_values.specs.Tokens.{word}
 use Rattle.fst_values.specs.Texts.{minus}
 use Rattle.fst_values.specs.Reading.{starts, after_mark, past_word, signed, is_numeral, reads, Gives}
-use Rattle.fst_values.proofs.ReadingLemmas.{chooses}
+use Rattle.fst_values.proofs.StepLemmas.{chooses}
 
 found : (bs : List ℕ) → is_numeral (word (after_mark minus bs)) ≡ true
     → reads s_int bs ≡ Some (v_int (signed (starts minus bs) (digits_value 10 (word (after_mark minus bs)))), past_word (after_mark minus bs))

@@ -1,5 +1,5 @@
 -- Reading the items of a list, one by one.
-use Rattle.std.proofs.Common.{◌≡◌, ℕ, zero, suc, ◌<◌, ◌≤◌, Bool, true, false, List, [], ◌∷◌, ◌++◌, length, Option, Some, None, Result, Ok, Err, refl, sym, ap, subst, ◌∙◌, if◌then◌else◌, arith}
+use Rattle.std.proofs.Common.{◌≡◌, ℕ, zero, suc, ◌<◌, Bool, true, false, List, [], ◌∷◌, ◌++◌, length, Option, Some, None, Ok, Err, refl, sym, ap, subst, ◌∙◌, if◌then◌else◌, arith}
 use Rattle.fst_base.specs.Sorts.{Srt}
 use Rattle.fst_base.specs.Values.{Val, v_nil, v_cons, chain}
 use Rattle.fst_base.specs.declared.value.Value.{Value}
@@ -7,7 +7,9 @@ use Rattle.fst_values.specs.declared.fault.ValueFault.TheVariants.{NotAValue, No
 use Rattle.fst_values.specs.declared.fault.ValueFault.{ValueFault}
 use Rattle.fst_values.specs.Texts.{close_square, semicolon}
 use Rattle.fst_values.specs.Reading.{◌>>=◌, starts, after_mark, expected, Found, within, items, reads, Part, Parts, Gives, Expects}
-use Rattle.fst_values.proofs.ReadingLemmas.{sound, text-le, goes, goes_none, chooses, passes, expected-shorter}
+use Rattle.fst_values.proofs.SoundLemmas.{sound}
+use Rattle.fst_values.proofs.LengthLemmas.{text-le, expected-shorter}
+use Rattle.fst_values.proofs.StepLemmas.{goes, goes_none, chooses, passes}
 
 -- what is found, with these values before it
 pub prepended : List Val → Found → Found

@@ -1,5 +1,5 @@
 -- Lists of values whose numbers lie within 128 bits.
-use Rattle.std.proofs.Common.{◌≡◌, List, [], ◌∷◌, ◌++◌, map, Option, Some, None, refl, sym, ap, ap₂, subst, ◌∙◌}
+use Rattle.std.proofs.Common.{◌≡◌, List, [], ◌∷◌, ◌++◌, map, Option, Some, None, ap, ap₂, subst, ◌∙◌}
 use Rattle.std.proofs.lemmas.List.{map-append}
 use Rattle.fst_base.specs.Values.{Val, chain, plain_value}
 use Rattle.fst_base.specs.Primitives.{InRange}

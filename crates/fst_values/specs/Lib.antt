@@ -1,3 +1,4 @@
 pub mod Tokens
 pub mod Texts
 pub mod Reading
+pub mod Printing

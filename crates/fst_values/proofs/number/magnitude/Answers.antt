@@ -1,4 +1,4 @@
-use Rattle.std.proofs.Common.{arith, sym, ◌∙◌, ap, ◌+◌, ◌-◌, ◌*◌, get_or}
+use Rattle.std.proofs.Common.{arith}
 use Rattle.std.proofs.lemmas.Str.Parse.{digit_at}
 use Rattle.fst_values.proofs.NumberLemmas.{digit_more, digit_more-le}
 use Rattle.fst_values.proofs.number.magnitude.Goals as goal

@@ -1,4 +1,4 @@
-use Rattle.std.proofs.Common.{subst, List, ◌++◌, ◌∷◌, []}
+use Rattle.std.proofs.Common.{subst}
 use Rattle.fst_values.specs.Reading.{Part, Parts}
 use Rattle.fst_values.proofs.PartLemmas.{pushed, pushed_wide, pushed_to_wide}
 use Rattle.fst_values.proofs.parts.with_item.Goals as goal
