@@ -22,3 +22,8 @@ with_piece written piece = option_map (λ bytes. bytes ++ piece) written
 -- the number of calls after one more call: where it is told then, it was told before
 abbrev pub IsOneMore : Option ℕ → Option ℕ → Type 0
 IsOneMore old new = (n : ℕ) → new ≡ Some n → (m : ℕ) × ((old ≡ Some m) × (n ≡ m + 1))
+
+-- a folder of files: how many bytes the last fetch read, and the count of faults
+pub record FolderState : Type 0 where
+  pub bytes_read : ℕ
+  pub faults : ℕ

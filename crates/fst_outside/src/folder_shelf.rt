@@ -5,11 +5,12 @@ use crate::shelf::Shelf;
 use fst_base::Seq;
 use std::alloc::Global;
 use std::io::{ErrorKind, Read};
+use std::marker::Model;
 use std::rt::Files;
 use std::{fs, io};
 
-/// The files of the folder that the program runs in. It tells no content; each error of the system raises the count
-/// of faults, which stays at its last value.
+/// Real files, by their paths. It tells no content; each error of the system raises the count of faults, which stays at
+/// its last value.
 #[derive(Drop)]
 pub struct FolderShelf<'a, R> {
     rt: &'a R,
@@ -17,8 +18,19 @@ pub struct FolderShelf<'a, R> {
     faults: u64,
 }
 
+impl<'a, R> Model for FolderShelf<'a, R> {
+    ghost use Rattle.fst_outside.specs.Outside.{FolderState};
+
+    ghost Value = { FolderState };
+
+    ghost view = { λ s. record { bytes_read = s.bytes_read; faults = s.faults } };
+}
+
 impl<'a, R: Files> FolderShelf<'a, R> {
-    pub fn new(rt: &'a R) -> FolderShelf<'a, R> {
+    /// The files that the runtime reaches.
+    pub fn new(rt: &'a R) -> FolderShelf<'a, R>
+        ensures { result ≡ record { bytes_read = 0; faults = 0 } }
+    {
         FolderShelf {
             rt,
             bytes_read: 0,
@@ -31,8 +43,9 @@ impl<'a, R: Files> FolderShelf<'a, R> {
         ensures read { IfOk result (λ bytes. vec_len bytes ≡ self.new.bytes_read) }
         ensures faults { self.new.faults ≡ self.old.faults }
     {
-        let mut bytes = Vec::new(alloc);
+        self.bytes_read = 0;
         let file = fs::open(self.rt, name)?;
+        let mut bytes = Vec::new(alloc);
         let read = file
             .take((limit as u64).saturating_add(1))
             .read_to_end(&mut bytes);

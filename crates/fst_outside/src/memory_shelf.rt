@@ -30,6 +30,7 @@ impl Model for MemoryShelf {
 }
 
 impl MemoryShelf {
+    /// A shelf of these files. The list of names that it keeps grows by `alloc`.
     pub fn new(alloc: Global, files: Seq<File>, failing: Seq<u64>) -> MemoryShelf
         ensures { result ≡ record { files = files; failing = failing; fetched = []; faults = 0 } }
     {
@@ -41,6 +42,7 @@ impl MemoryShelf {
         }
     }
 
+    /// The files that it holds.
     pub fn files(&self) -> &Seq<File>
         ensures { result.now ≡ self.now.files }
     {

@@ -39,6 +39,7 @@ impl Model for MemorySink {
 const MOST_FAULTS: u64 = u64::MAX - 1;
 
 impl MemorySink {
+    /// An empty text, which grows by `alloc`, and the calls that are to fail.
     pub fn new(alloc: Global, failing: Seq<Fail>) -> MemorySink
         ensures { result ≡ record { failing = failing; written = []; calls = 0; faults = 0 } }
     {
@@ -50,6 +51,7 @@ impl MemorySink {
         }
     }
 
+    /// The text so far.
     pub fn written(&self) -> &Seq<u8>
         ensures { result.now ≡ self.now.written }
     {

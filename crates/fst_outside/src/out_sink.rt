@@ -2,17 +2,29 @@ ghost use Rattle.std.specs.Prelude.{◌≡◌, None};
 
 use crate::fault::PutFault;
 use crate::sink::Sink;
+use std::marker::Model;
 
-/// Standard output. It tells no content; each error of the system raises the count of faults, which stays at its last
-/// value.
+/// Standard output, which contracts see as its count of faults. It tells no content; each error of the system raises
+/// the count, which stays at its last value.
 #[derive(Drop)]
 pub struct OutSink<'a, R> {
     rt: &'a R,
     faults: u64,
 }
 
+impl<'a, R> Model for OutSink<'a, R> {
+    ghost use Rattle.std.specs.Prelude.{ℕ};
+
+    ghost Value = { ℕ };
+
+    ghost view = { λ s. s.faults };
+}
+
 impl<'a, R: Print> OutSink<'a, R> {
-    pub fn new(rt: &'a R) -> OutSink<'a, R> {
+    /// The standard output of the runtime.
+    pub fn new(rt: &'a R) -> OutSink<'a, R>
+        ensures { result ≡ 0 }
+    {
         OutSink { rt, faults: 0 }
     }
 }
@@ -22,7 +34,7 @@ impl<'a, R: Print> Sink for OutSink<'a, R> {
 
     ghost calls = { λ _. None };
 
-    ghost faults = { λ s. s.faults };
+    ghost faults = { λ s. s };
 
     fn put(&mut self, piece: &[u8]) -> Result<(), PutFault> {
         if self.rt.write_all(piece).is_err() {

@@ -24,6 +24,7 @@ impl Model for SteadyShelf {
 }
 
 impl SteadyShelf {
+    /// A shelf of these files. The list of names that it keeps grows by `alloc`.
     pub fn new(alloc: Global, files: Seq<File>) -> SteadyShelf
         ensures { result ≡ record { files = files; fetched = [] } }
     {

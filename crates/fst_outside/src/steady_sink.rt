@@ -24,6 +24,7 @@ impl Model for SteadySink {
 }
 
 impl SteadySink {
+    /// An empty text, which grows by `alloc`.
     pub fn new(alloc: Global) -> SteadySink
         ensures { result ≡ record { written = []; calls = 0 } }
     {
