@@ -1,5 +1,6 @@
 -- The equations of elaboration, a variant of the tree at a time.
 use Rattle.std.proofs.Common.{◌≡◌, ℕ, ℤ, Bool, true, false, not, List, [], ◌∷◌, map, length, get_or, Option, Some, None, Result, Ok, Err, arith, subst, refl, sym, ap, ◌∙◌, rules}
+use Rattle.std.specs.Prelude.{IsErrAnd}
 use Rattle.fst_base.specs.declared.op.Op.{Op}
 use Rattle.fst_base.specs.declared.op.Op.TheVariants as op
 use Rattle.fst_base.specs.declared.place.Pos.{Pos}
@@ -96,3 +97,8 @@ equal-op o p b e f = (same_op-decides o p).0 (go (same_op o p) (sym e ∙ f))
     go : (x : Bool) → not x ≡ false → x ≡ true
     go true q = refl
     go false q = cc
+
+-- a result that is this error
+pub is-error : (r : Result TypedTerm Stop) (e : Stop) → IsErrAnd r (λ x. x ≡ e) → r ≡ Err e
+is-error (Err x) e h = ap Err h
+is-error (Ok t) e h = absurd h
