@@ -20,16 +20,16 @@ nat_eq-decides i j = go (cases_eq i j)
     go (inl e) = (λ _. e, λ _. eq-eqb i j e)
     go (inr n) = decided-no (ne_eqb i j n) n
 
-same_bool-decides : (a b : Bool) → Decides (same_bool a b) (a ≡ b)
+pub same_bool-decides : (a b : Bool) → Decides (same_bool a b) (a ≡ b)
 same_bool-decides true true = (λ _. refl, λ _. refl)
 same_bool-decides true false = decided-no refl (λ e. cc)
 same_bool-decides false true = decided-no refl (λ e. cc)
 same_bool-decides false false = (λ _. refl, λ _. refl)
 
-same_op-decides : (o p : Op) → Decides (same_op o p) (o ≡ p)
+pub same_op-decides : (o p : Op) → Decides (same_op o p) (o ≡ p)
 same_op-decides o p = (same_true the_type (search rules) o p, true_same the_type o p)
 
-same_name-decides : (xs ys : List ℕ) → Decides (same_name xs ys) (xs ≡ ys)
+pub same_name-decides : (xs ys : List ℕ) → Decides (same_name xs ys) (xs ≡ ys)
 same_name-decides [] [] = (λ _. refl, λ _. refl)
 same_name-decides (x ∷ xs) (y ∷ ys) = decided-both _ _ (λ e f. ap₂ ◌∷◌ e f) (λ e. cc) (λ e. cc) (nat_eq-decides x y) (same_name-decides xs ys)
 same_name-decides xs ys = decided-no refl (λ e. cc)

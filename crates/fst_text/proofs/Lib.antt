@@ -7,3 +7,4 @@ pub mod MarkLemmas
 pub mod LexemeLemmas
 pub mod ScanLemmas
 pub mod NextLemmas
+pub mod Examples

@@ -48,7 +48,7 @@ impl<'a> Scanner<'a> {
         ensures moves { IfSome (given result) (λ token. (self.old.at ≤ token.from) × (self.new.at ≡ token.to)) }
 
         ensures longest { IfSome (given result) (IsTokenOf self.old.text) }
-        ensures none { IfErr result (λ at. BeginsNone (drop at self.old.text)) }
+        ensures begins_none { IfErr result (λ at. BeginsNone (drop at self.old.text)) }
     {
         let from = self.at + blanks_len(&self.bytes[self.at..]);
         match lexeme(&self.bytes[from..]) {

@@ -1,7 +1,9 @@
 -- The program that a tree is, for the programs that are built so far: indices for names, and a sort for each term; None where the
 -- tree holds something that isn't built, a name isn't in scope or is declared twice, or a term doesn't fit its sort.
 use Rattle.std.specs.Prelude.{ℕ, suc, nat_le, nat_eq, Bool, true, false, ◌&&◌, ◌||◌, not, if◌then◌else◌, List, [], ◌∷◌, ◌++◌, map, reverse, length, codes, Option, Some, None}
+use Rattle.fst_base.specs.declared.op.Op.{Op}
 use Rattle.fst_base.specs.declared.op.Op.TheVariants as op
+use Rattle.fst_base.specs.declared.place.Pos.{Pos}
 use Rattle.fst_base.specs.Sorts.{Srt, s_unit, s_bool, same_sort}
 use Rattle.fst_terms.specs.Terms.{Tm, t_var, t_bool, t_unit, t_prim, t_if, row}
 use Rattle.fst_terms.specs.Meaning.{Vr}
@@ -12,6 +14,7 @@ use Rattle.fst_reader.specs.declared.word.Word.{Word}
 use Rattle.fst_reader.specs.declared.form.Form.{Form}
 use Rattle.fst_reader.specs.declared.form.FormNode.{fold-FormNode}
 use Rattle.fst_reader.specs.declared.form.FormNode.TheOpen as F
+use Rattle.fst_reader.specs.declared.form.FormNode.TheVariants as V
 use Rattle.fst_reader.specs.declared.body.BodyTree.{BodyTree, fold-BodyTree}
 use Rattle.fst_reader.specs.declared.body.BodyTree.TheOpen as B
 use Rattle.fst_reader.specs.declared.sort.SortTree.{SortTree, out-SortTree}
@@ -72,6 +75,10 @@ node_layer _ at xs = None
 -- the term that a form is, in a scope
 abbrev pub term_of : Form Word → Scope → Option Typed
 term_of f xs = fold-FormNode Word ((place : ℕ) → Scope → Option Typed) (Scope → Option Typed) node_layer (λ g. g.node g.at.at) f.node f.at.at xs
+
+-- the form of a primitive with these sides, at a place
+abbrev pub prim_form : Pos → Op → List (Form Word) → Form Word
+prim_form at o fs = record { at = at; node = V.Prim o fs }
 
 -- ---- bodies
 

@@ -1,0 +1,17 @@
+pub mod NumberLemmas
+pub mod PartLemmas
+pub mod StepLemmas
+pub mod TokenLemmas
+pub mod SoundLemmas
+pub mod LengthLemmas
+pub mod StartLemmas
+pub mod CompleteLemmas
+pub mod HasLemmas
+pub mod ItemLemmas
+pub mod IntegerLemmas
+pub mod FormLemmas
+pub mod Fronts
+pub mod WholeLemmas
+pub mod DigitLemmas
+pub mod ListLemmas
+pub mod PrintedLemmas

@@ -1,0 +1,4 @@
+pub mod Tokens
+pub mod Texts
+pub mod Reading
+pub mod Printing
