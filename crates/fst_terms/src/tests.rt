@@ -1,4 +1,4 @@
-ghost use Rattle.std.specs.Prelude.{◌≡◌, ◌<◌, codes, IfOk};
+ghost use Rattle.std.specs.Prelude.{◌≡◌, codes, IfOk};
 ghost use Rattle.fst_terms.specs.Terms.{plain_term, t_var, t_unit, t_if, t_let};
 
 use crate::free::free_in;
@@ -27,60 +27,57 @@ fn a_let(alloc: Global, bound: u32, inner: u32) -> Result<Term, OutOfMemory>
     Ok(Term::Let(name, bound, rest))
 }
 
-fn index(term: &Term) -> Option<u32> {
+/// Whether the term has that form, with these two variables.
+fn is_let(term: &Term, bound: u32, inner: u32) -> bool {
     match term {
-        Term::Var(index) => Some(*index),
-        _ => None,
-    }
-}
-
-/// The two variables of a term of that form.
-fn variables(term: &Term) -> Option<(u32, u32)> {
-    match term {
-        Term::Let(_, bound, rest) => match rest.get() {
-            Term::If(_, left, _) => Some((index(bound.get())?, index(left.get())?)),
-            _ => None,
+        Term::Let(_, first, rest) => match rest.get() {
+            Term::If(_, left, _) => is_variable(first.get(), bound)
+                && is_variable(left.get(), inner),
+            _ => false,
         },
-        _ => None,
+        _ => false,
     }
 }
 
-fn raised(alloc: Global, indices: (u32, u32), from: u32) -> Result<Option<(u32, u32)>, OutOfMemory>
-    requires bound { indices.0 < 100 }
-    requires inner { indices.1 < 100 }
-{
-    let term = a_let(alloc, indices.0, indices.1)?;
-    Ok(variables(&shift(alloc, &term, from, 2)?))
-}
-
-fn replaced(
-    alloc: Global,
-    indices: (u32, u32),
-    at: u32,
-) -> Result<Option<(u32, u32)>, OutOfMemory> {
-    let term = a_let(alloc, indices.0, indices.1)?;
-    Ok(variables(&subst(alloc, &term, at, &Term::Var(4))?))
-}
-
-#[test]
-fn indices_are_raised(rt: HostRuntime) -> Result<(), Fail> {
-    assert_eq!(rt; raised(rt.alloc(), (0, 1), 0)?, Some((2, 3)));
-    assert_eq!(rt; raised(rt.alloc(), (1, 1), 1)?, Some((3, 1)));
-    assert_eq!(rt; raised(rt.alloc(), (0, 0), 0)?, Some((2, 0)));
-    Ok(())
-}
-
-#[test]
-fn indices_are_replaced(rt: HostRuntime) -> Result<(), Fail> {
-    let rows = [((1, 2), (4, 5)), ((2, 3), (1, 2)), ((0, 0), (0, 0))];
-    for (indices, wanted) in &rows {
-        assert_eq!(rt; replaced(rt.alloc(), *indices, 1)?, Some(*wanted));
+fn is_variable(term: &Term, index: u32) -> bool {
+    match term {
+        Term::Var(found) => *found == index,
+        _ => false,
     }
-    Ok(())
+}
+
+/// The variables of a let, and what they are afterwards.
+type Row = (u8, u8, u32, u32);
+
+/// Whether raising from `from` on by 2 does that.
+fn raises(alloc: Global, row: &Row, from: u32) -> Result<bool, OutOfMemory> {
+    let (bound, inner, bound_after, inner_after) = *row;
+    let term = a_let(alloc, u32::from(bound), u32::from(inner))?;
+    Ok(is_let(&shift(alloc, &term, from, 2)?, bound_after, inner_after))
+}
+
+/// Whether putting the variable 4 in for the variable 1 does that.
+fn replaces(alloc: Global, row: &Row) -> Result<bool, OutOfMemory> {
+    let (bound, inner, bound_after, inner_after) = *row;
+    let term = a_let(alloc, u32::from(bound), u32::from(inner))?;
+    Ok(is_let(
+        &subst(alloc, &term, 1, &Term::Var(4))?,
+        bound_after,
+        inner_after,
+    ))
 }
 
 #[test]
-fn indices_occur(rt: HostRuntime) -> Result<(), Fail> {
+fn indices_under_a_let(rt: HostRuntime) -> Result<(), Fail> {
+    for row in &[(0, 1, 2, 3), (0, 0, 2, 0), (4, 2, 6, 4)] {
+        assert!(rt; raises(rt.alloc(), row, 0)?);
+    }
+    for row in &[(0, 1, 0, 1), (1, 1, 3, 1), (1, 2, 3, 4)] {
+        assert!(rt; raises(rt.alloc(), row, 1)?);
+    }
+    for row in &[(1, 2, 4, 5), (2, 3, 1, 2), (0, 0, 0, 0)] {
+        assert!(rt; replaces(rt.alloc(), row)?);
+    }
     let term = a_let(rt.alloc(), 1, 3)?.copy(rt.alloc())?;
     for (index, wanted) in &[(0, false), (1, true), (2, true), (3, false)] {
         assert_eq!(rt; free_in(&term, *index), *wanted);
