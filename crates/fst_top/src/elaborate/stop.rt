@@ -1,4 +1,4 @@
-ghost use Rattle.std.specs.Prelude.{◌≡◌};
+ghost use Rattle.std.specs.Prelude.{◌≡◌, IfOk, IfErr};
 
 use fst_base::OutOfMemory;
 
@@ -17,5 +17,16 @@ impl From<OutOfMemory> for Stop {
 
     fn from(_: OutOfMemory) -> Stop {
         Stop::NoMemory
+    }
+}
+
+/// The first with what the second gives. A caller that owns a tree lets it go here where the second stops.
+pub fn both<A: Drop, B: Drop>(first: A, second: Result<B, Stop>) -> Result<(A, B), Stop>
+    ensures ok { IfOk result (λ pair. (pair.0 ≡ first) × (second ≡ Ok pair.1)) }
+    ensures err { IfErr result (λ stop. second ≡ Err stop) }
+{
+    match second {
+        Ok(second) => Ok((first, second)),
+        Err(stop) => Err(stop),
     }
 }

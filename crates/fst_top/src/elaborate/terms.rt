@@ -4,7 +4,7 @@ ghost use Rattle.fst_top.specs.Elaborating.{Gives, plain_typed};
 ghost use Rattle.fst_top.specs.Scopes.{vars_in};
 
 use crate::elaborate::scope::Scope;
-use crate::elaborate::stop::Stop;
+use crate::elaborate::stop::{both, Stop};
 use crate::elaborate::typed::{BuiltSort, TypedTerm};
 use fst_base::{Box, Op, Pos, Seq, Sort};
 use fst_reader::{FormNode, RawTerm};
@@ -51,8 +51,8 @@ pub fn elaborate_term(alloc: Global, form: &RawTerm, scope: &Scope<'_>) -> Resul
         FormNode::Prim(op, sides) => elaborate_equation(alloc, *op, sides.as_slice(), form.at, scope),
         FormNode::If(test, left, right) => {
             let test = elaborate_term(alloc, test.get(), scope)?;
-            let left = elaborate_term(alloc, left.get(), scope)?;
-            let right = elaborate_term(alloc, right.get(), scope)?;
+            let (test, left) = both(test, elaborate_term(alloc, left.get(), scope))?;
+            let ((test, left), right) = both((test, left), elaborate_term(alloc, right.get(), scope))?;
             choice(alloc, test, left, right)
         }
         FormNode::App(_, _) => Err(Stop::NotBuilt),
@@ -69,6 +69,6 @@ fn elaborate_equation(alloc: Global, op: Op, sides: &[RawTerm], at: Pos, scope: 
         return Err(Stop::NotBuilt);
     }
     let left = elaborate_term(alloc, &sides[0], scope)?;
-    let right = elaborate_term(alloc, &sides[1], scope)?;
+    let (left, right) = both(left, elaborate_term(alloc, &sides[1], scope))?;
     equation(alloc, left, right, at)
 }
