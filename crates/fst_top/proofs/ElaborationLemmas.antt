@@ -1,11 +1,8 @@
 -- The equations of elaboration, a variant of the tree at a time.
-use Rattle.std.proofs.Common.{◌≡◌, ℕ, ℤ, Bool, true, false, not, List, [], ◌∷◌, map, length, get_or, Option, Some, None, Result, Ok, Err, arith, subst, refl, sym, ap, ◌∙◌, rules}
-use Rattle.std.specs.Prelude.{IsErrAnd}
+use Rattle.std.proofs.Common.{◌≡◌, ℕ, ℤ, Bool, List, [], ◌∷◌, map, length, get_or, Option, Some, None, arith, refl, sym, ap, ◌∙◌, rules}
 use Rattle.fst_base.specs.declared.op.Op.{Op}
 use Rattle.fst_base.specs.declared.op.Op.TheVariants as op
 use Rattle.fst_base.specs.declared.place.Pos.{Pos}
-use Rattle.fst_base.specs.Rows.{same_op}
-use Rattle.fst_terms.proofs.SameLemmas.{same_op-decides}
 use Rattle.fst_terms.specs.Terms.{t_bool, t_unit}
 use Rattle.fst_base.specs.Sorts.{s_bool, s_unit}
 use Rattle.fst_reader.specs.declared.word.Word.{Word}
@@ -14,11 +11,7 @@ use Rattle.fst_reader.specs.declared.form.FormNode.TheOpen as F
 use Rattle.fst_reader.specs.declared.form.FormNode as D
 use Rattle.fst_reader.specs.declared.form.FormNode.TheVariants as V
 use Rattle.fst_reader.specs.declared.form.FormNode.{FormNode}
-use Rattle.fst_top.specs.Elaboration.{Typed, typed, Scope, variable, equation_of, if_of, given_some, node_layer, prim_form, term_of}
-use Rattle.fst_top.specs.declared.elaborate.stop.Stop.{Stop}
-use Rattle.fst_top.specs.declared.elaborate.stop.Stop.TheVariants as stop
-use Rattle.fst_top.specs.declared.elaborate.typed.TypedTerm.{TypedTerm}
-use Rattle.fst_top.specs.Elaborating.{Gives, plain_typed}
+use Rattle.fst_top.specs.Elaboration.{Typed, typed, Scope, variable, equation_of, if_of, given_some, node_layer, term_of}
 
 -- the form of a node at a place
 abbrev form : Pos → FormNode Word → Form Word
@@ -75,30 +68,3 @@ pub term-Let : (at : Pos) (w : Word) (x y : Form Word) (xs : Scope) → term_of 
 term-Let at w x y xs = search (rules, D.the_lemmas)
 
 pub ruleset terms = (term-Ident, term-If, term-Eq, term-other, term-sides, term-Bool, term-Unit, term-Int, term-App, term-Let)
-
--- ---- steps
-
--- where the second side stops, so does the equation
-pub equation-stops : (at : Pos) (o : Op) (fs : List (Form Word)) (x y : Form Word) (xs : Scope) (t : TypedTerm) (r : Result TypedTerm Stop) (e : Stop) → o ≡ op.Eq → length fs ≡ 2 → x ≡ get_or fs 0 x → y ≡ get_or fs 1 y
-    → Gives plain_typed (term_of x xs) (Ok t) → Gives plain_typed (term_of y xs) (Err e) → r ≡ Err e → Gives plain_typed (term_of (prim_form at o fs) xs) r
-equation-stops at o fs x y xs t r stop.NotBuilt q long p s h k w =
-    subst (Gives plain_typed (term_of (prim_form at o fs) xs)) (sym w) (ap (λ o. term_of (prim_form at o fs) xs) q ∙ term-Eq at fs x y xs long p s ∙ ap (λ a. given_some a (λ t. given_some (term_of y xs) (λ u. equation_of at.at t u))) h ∙ ap (λ a. given_some a (λ u. equation_of at.at (plain_typed t) u)) k)
-equation-stops at o fs x y xs t r stop.NoMemory q long p s h k w = subst (Gives plain_typed (term_of (prim_form at o fs) xs)) (sym w) tt
-
-pub equation-goes : (at : Pos) (o : Op) (fs : List (Form Word)) (x y : Form Word) (xs : Scope) (t u : TypedTerm) (r : Result TypedTerm Stop) → o ≡ op.Eq → length fs ≡ 2 → x ≡ get_or fs 0 x → y ≡ get_or fs 1 y
-    → Gives plain_typed (term_of x xs) (Ok t) → Gives plain_typed (term_of y xs) (Ok u) → Gives plain_typed (equation_of at.at (plain_typed t) (plain_typed u)) r → Gives plain_typed (term_of (prim_form at o fs) xs) r
-equation-goes at o fs x y xs t u r q long p s h k w =
-    subst (λ a. Gives plain_typed a r) (sym (ap (λ o. term_of (prim_form at o fs) xs) q ∙ term-Eq at fs x y xs long p s ∙ ap (λ a. given_some a (λ t. given_some (term_of y xs) (λ u. equation_of at.at t u))) h ∙ ap (λ a. given_some a (λ u. equation_of at.at (plain_typed t) u)) k)) w
-
--- primitives that aren't different are equal
-pub equal-op : (o p : Op) (b : Bool) → b ≡ not (same_op o p) → b ≡ false → o ≡ p
-equal-op o p b e f = (same_op-decides o p).0 (go (same_op o p) (sym e ∙ f))
-  where
-    go : (x : Bool) → not x ≡ false → x ≡ true
-    go true q = refl
-    go false q = cc
-
--- a result that is this error
-pub is-error : (r : Result TypedTerm Stop) (e : Stop) → IsErrAnd r (λ x. x ≡ e) → r ≡ Err e
-is-error (Err x) e h = ap Err h
-is-error (Ok t) e h = absurd h

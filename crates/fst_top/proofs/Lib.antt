@@ -1,3 +1,4 @@
 pub mod BuiltGood
 pub mod ElaborationLemmas
 pub mod ScopeLemmas
+pub mod BodyLemmas

@@ -9,7 +9,9 @@ use Rattle.fst_top.specs.declared.elaborate.typed.BuiltSort.{BuiltSort}
 use Rattle.fst_top.specs.declared.elaborate.typed.BuiltSort.TheVariants as built
 use Rattle.fst_top.specs.declared.elaborate.typed.TypedTerm.{TypedTerm}
 use Rattle.fst_top.specs.declared.elaborate.typed.Binding.{Binding}
-use Rattle.fst_top.specs.Elaboration.{Typed}
+use Rattle.fst_top.specs.declared.elaborate.typed.TypedText as R
+use Rattle.fst_program.specs.Plain.{plain_comp}
+use Rattle.fst_top.specs.Elaboration.{Typed, TypedText}
 
 abbrev pub srt_of : BuiltSort → Srt
 srt_of built.Bool = s_bool
@@ -17,6 +19,9 @@ srt_of built.Unit = s_unit
 
 abbrev pub plain_typed : TypedTerm → Typed
 plain_typed t = record { term = plain_term t.term; sort = srt_of t.sort }
+
+abbrev pub plain_typed_text : R.TypedText → TypedText
+plain_typed_text c = record { text = plain_comp c.text; sort = srt_of c.sort }
 
 abbrev pub binding_var : Binding → Vr
 binding_var b = record { name = b.name.now; sort = srt_of b.sort }

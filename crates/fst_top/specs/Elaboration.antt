@@ -17,6 +17,8 @@ use Rattle.fst_reader.specs.declared.form.FormNode.TheOpen as F
 use Rattle.fst_reader.specs.declared.form.FormNode.TheVariants as V
 use Rattle.fst_reader.specs.declared.body.BodyTree.{BodyTree, fold-BodyTree}
 use Rattle.fst_reader.specs.declared.body.BodyTree.TheOpen as B
+use Rattle.fst_reader.specs.declared.body.PartTree.{PartTree}
+use Rattle.fst_reader.specs.declared.body.PartNode.{fold-PartNode}
 use Rattle.fst_reader.specs.declared.sort.SortTree.{SortTree, out-SortTree}
 use Rattle.fst_reader.specs.declared.sort.SortTree.TheOpen as S
 use Rattle.fst_reader.specs.declared.decl.EffectName.{EffectName}
@@ -104,6 +106,10 @@ body_layer _ xs = None
 abbrev pub part_layer : B.PartNode-F Word (Scope → Option TypedText) (Scope → Option Typed) (Scope → Option Typed) → Scope → Option Typed
 part_layer (B.Term f) xs = term_of f xs
 part_layer _ xs = None
+
+-- the term that a part is, in a scope
+abbrev pub part_of : PartTree Word → Scope → Option Typed
+part_of part xs = fold-PartNode Word (Scope → Option TypedText) (Scope → Option Typed) (Scope → Option Typed) body_layer part_layer (λ p. p.node) part.node xs
 
 -- the core text that a body is, in a scope
 abbrev pub text_of : BodyTree Word → Scope → Option TypedText

@@ -16,6 +16,8 @@ impl<'a> Scope<'a> {
     ghost use Rattle.fst_top.specs.Elaboration.{variable};
     ghost use Rattle.fst_top.specs.Elaborating.{binding_var, Gives, plain_typed};
     ghost use Rattle.fst_top.specs.Scopes.{vars_in};
+    ghost use Rattle.std.specs.Prelude.{List};
+    ghost use Rattle.fst_terms.specs.Meaning.{Vr};
 
     /// No variables.
     pub fn new(alloc: Global) -> Scope<'a>
@@ -32,6 +34,13 @@ impl<'a> Scope<'a> {
     {
         self.bindings.push(binding)?;
         Ok(())
+    }
+
+    /// Takes the last variable out of scope, where there is one.
+    pub fn pop(&mut self)
+        ensures { (last : Vr) (others : List Vr) → vars_in self.old ≡ last ∷ others → vars_in self.new ≡ others }
+    {
+        self.bindings.pop();
     }
 
     /// The last variable of the name.

@@ -1,6 +1,7 @@
-ghost use Rattle.std.specs.Prelude.{◌≡◌, IfOk, IfErr};
+ghost use Rattle.std.specs.Prelude.{◌≡◌, Err, IfOk, IfErr, MatchResult};
 
-use fst_base::OutOfMemory;
+use fst_base::{Box, OutOfMemory};
+use std::alloc::Global;
 
 /// Why a tree gives no program.
 #[derive(Clone, Copy, Debug, PartialEq, Eq)]
@@ -29,4 +30,20 @@ pub fn both<A: Drop, B: Drop>(first: A, second: Result<B, Stop>) -> Result<(A, B
         Ok(second) => Ok((first, second)),
         Err(stop) => Err(stop),
     }
+}
+
+/// Lets what is owned go, and refuses.
+pub fn refuse<A: Drop, B>(_owned: A) -> Result<B, Stop>
+    ensures { result ≡ Err Stop.NotBuilt }
+{
+    Err(Stop::NotBuilt)
+}
+
+/// Two values on the heap.
+pub fn boxes<A: Drop, B: Drop>(alloc: Global, first: A, second: B) -> Result<(Box<A>, Box<B>), Stop>
+    ensures { MatchResult result (λ pair. (pair.0 ≡ first) × (pair.1 ≡ second)) (λ stop. stop ≡ Stop.NoMemory) }
+{
+    let first = Box::new(alloc, first)?;
+    let second = Box::new(alloc, second)?;
+    Ok((first, second))
 }

@@ -1,4 +1,5 @@
 use fst_base::Name;
+use fst_program::Comp;
 use fst_terms::Term;
 
 /// A sort that is built.
@@ -12,6 +13,13 @@ pub enum BuiltSort {
 #[derive(Drop)]
 pub struct TypedTerm {
     pub term: Term,
+    pub sort: BuiltSort,
+}
+
+/// Core text and the sort of its value.
+#[derive(Drop)]
+pub struct TypedText {
+    pub text: Comp,
     pub sort: BuiltSort,
 }
 
