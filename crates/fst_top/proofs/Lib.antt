@@ -2,3 +2,5 @@ pub mod BuiltGood
 pub mod ElaborationLemmas
 pub mod ScopeLemmas
 pub mod BodyLemmas
+pub mod HeadLemmas
+pub mod NamedLemmas

@@ -148,7 +148,7 @@ param_of p = given_some (sort_of_tree p.sort) (λ T. only_if (not p.hidden) (whe
 abbrev pub params_of_trees : (met : List (List ℕ)) → List (ParamTree Word) → Option (List Prm)
 params_of_trees met [] = Some []
 params_of_trees met (p ∷ ps) =
-    given_some (param_of p) (λ q. only_if (is_blank q.name || not (is_named q.name met)) (given_some (params_of_trees (q.name ∷ met) ps) (λ qs. Some (q ∷ qs))))
+    given_some (param_of p) (λ q. only_if (is_blank q.name || not (is_named q.name met)) (given_some (params_of_trees (met ++ q.name ∷ []) ps) (λ qs. Some (q ∷ qs))))
 
 -- the parameters as variables, the last first
 abbrev pub scope_of : List Prm → Scope
@@ -196,7 +196,7 @@ funs_from k met (d ∷ ds) =
     given_some (fun_decl d) λ tree.
     given_some (fun_of_tree k tree) λ f.
     only_if (not (is_named f.name met))
-    (given_some (funs_from (suc k) (f.name ∷ met) ds) λ fs.
+    (given_some (funs_from (suc k) (met ++ f.name ∷ []) ds) λ fs.
     Some (f ∷ fs))
 
 -- the greatest number of functions

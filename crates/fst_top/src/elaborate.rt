@@ -1,6 +1,7 @@
 //! From the tree of a file to the program that it is, for the programs that are built so far.
 
 mod bodies;
+mod heads;
 mod scope;
 mod stop;
 mod terms;

@@ -1,4 +1,4 @@
-use fst_base::Name;
+use fst_base::{Name, Sort};
 use fst_program::Comp;
 use fst_terms::Term;
 
@@ -7,6 +7,22 @@ use fst_terms::Term;
 pub enum BuiltSort {
     Bool,
     Unit,
+}
+
+impl BuiltSort {
+    ghost use Rattle.std.specs.Prelude.{◌≡◌};
+    ghost use Rattle.fst_base.specs.Sorts.{plain_sort};
+    ghost use Rattle.fst_top.specs.Elaborating.{srt_of};
+
+    /// The same as a sort.
+    pub fn sort(self) -> Sort
+        ensures { plain_sort result ≡ srt_of self }
+    {
+        match self {
+            BuiltSort::Bool => Sort::Bool,
+            BuiltSort::Unit => Sort::Unit,
+        }
+    }
 }
 
 /// A term and its sort.
