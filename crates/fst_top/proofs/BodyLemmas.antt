@@ -1,5 +1,5 @@
 -- The equations of elaborated bodies, a variant of the tree at a time.
-use Rattle.std.proofs.Common.{◌≡◌, ℕ, Bool, List, [], ◌∷◌, map, Option, Some, None, refl, sym, ap, ◌∙◌, rules}
+use Rattle.std.proofs.Common.{◌≡◌, List, ◌∷◌, Option, Some, None, rules}
 use Rattle.fst_base.specs.declared.place.Pos.{Pos}
 use Rattle.fst_program.specs.Texts.{c_ret}
 use Rattle.fst_reader.specs.declared.word.Word.{Word}
@@ -12,7 +12,7 @@ use Rattle.fst_reader.specs.declared.body.BodyTree.TheVariants as V
 use Rattle.fst_reader.specs.declared.body.PartTree.{PartTree}
 use Rattle.fst_reader.specs.declared.body.PartNode as P
 use Rattle.fst_reader.specs.declared.body.PartNode.TheVariants as W
-use Rattle.fst_top.specs.Elaboration.{Typed, Scope, TypedText, let_of, branch_of, given_some, term_of, text_of, part_of}
+use Rattle.fst_top.specs.Elaboration.{Scope, let_of, branch_of, given_some, term_of, text_of, part_of}
 
 pub text-Let : (w : Word) (part : PartTree Word) (rest : BodyTree Word) (xs : Scope) → text_of (V.Let w None part rest) xs ≡ given_some (part_of part xs) (λ t. given_some (text_of rest (record { name = w.text; sort = t.sort } ∷ xs)) (λ c. let_of w t c))
 text-Let w part rest xs = search (rules, D.the_lemmas)
@@ -51,4 +51,5 @@ pub part-Term : (f : Form Word) (at : Pos) (xs : Scope) → part_of (record { at
 part-Term f at xs = search (rules, P.the_lemmas)
 
 pub ruleset bodies = (text-Let, text-If, text-Part, text-annotated, text-GhostLet, text-Assert, text-Match)
+
 pub ruleset parts = (part-Block, part-Call, part-Reify, part-Reflect, part-Term)

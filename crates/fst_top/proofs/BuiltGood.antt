@@ -1,27 +1,26 @@
 -- Where the goals of a built program are valid, its functions are good.
-use Rattle.std.proofs.Common.{◌≡◌, ℕ, zero, suc, ◌+◌, ◌-◌, ◌<◌, ◌≤◌, Bool, true, false, ◌&&◌, not, if◌then◌else◌, List, [], ◌∷◌, ◌++◌, nat_lt, map, reverse, length, get_or, slice_get, Option, Some, None, IsTrue, refl, sym, ap, ap₂, ◌∙◌, subst, arith, ◌⊎◌, inl, inr}
-use Rattle.std.specs.Prelude.{⊤}
+use Rattle.std.proofs.Common.{◌≡◌, ℕ, zero, suc, ◌+◌, ◌-◌, ◌<◌, Bool, true, false, if◌then◌else◌, List, [], ◌∷◌, ◌++◌, nat_lt, map, reverse, length, Option, Some, None, refl, sym, ap, ap₂, ◌∙◌, subst, arith, ◌⊎◌, inl, inr}
 use Rattle.fst_base.specs.declared.op.Op.TheVariants as op
-use Rattle.fst_base.specs.Sorts.{Srt, s_unit, s_bool}
-use Rattle.fst_base.specs.Values.{Val, v_unit, v_bool, v_int, v_pair, v_none, v_some, v_nil, v_cons, v_inl, v_inr, Has, HasSorts, same}
-use Rattle.fst_base.specs.Primitives.{prim, is_true}
+use Rattle.fst_base.specs.Sorts.{Srt, s_bool}
+use Rattle.fst_base.specs.Values.{Val, v_unit, v_bool, HasSorts, same}
+use Rattle.fst_base.specs.Primitives.{is_true}
 use Rattle.fst_terms.specs.Terms.{Tm, Tms, t_var, t_int, t_bool, t_unit, t_prim, t_if, t_app, t_let, t_end, t_more, shift, shifts}
-use Rattle.fst_terms.specs.Meaning.{Env, Meaning, value, values, Truth, AllTrue, IsValid, HasVars, Vr}
-use Rattle.fst_terms.specs.Formulas.{negation, put, puts, vars_from}
+use Rattle.fst_terms.specs.Meaning.{Env, Meaning, value, AllTrue, HasVars, Vr}
+use Rattle.fst_terms.specs.Formulas.{negation, put, vars_from}
 use Rattle.fst_terms.proofs.PutLemmas.{put_values, put-value}
 use Rattle.fst_program.specs.declared.goal.SiteKind.TheVariants as kind
 use Rattle.std.proofs.lemmas.List.{reverse-reverse, length-reverse}
-use Rattle.fst_program.specs.Texts.{is_user, if_there, fun_at, Cm, CmArms, c_ret, c_let, c_bind, c_ghost, c_assert, c_if, c_match, c_call, c_reify, c_reflect, c_return, c_lift, c_end, c_arm, Prm, Fn, Prog}
-use Rattle.fst_program.specs.Evaluation.{Got, got, eval, evals, apply, limit}
-use Rattle.fst_program.specs.Runs.{Outcome, Done, Out, spend, then_do, with_value, Run, Calls, Ghosts, text, calls, ghost_run}
+use Rattle.fst_program.specs.Texts.{is_user, if_there, fun_at, Cm, c_ret, c_let, c_if, Prm, Fn, Prog}
+use Rattle.fst_program.specs.Evaluation.{Got, got, eval, apply}
+use Rattle.fst_program.specs.Runs.{Outcome, Done, Out, spend, then_do, Calls, Ghosts, text, calls, ghost_run}
 use Rattle.fst_program.specs.declared.goal.SiteKind.{SiteKind}
 use Rattle.fst_program.specs.declared.goal.Choice.TheVariants as choice
-use Rattle.fst_program.specs.Paths.{Gl, Way, count, suppose, suppose_all, choose, raised, all_raised, Division, divisions, all_divisions, Side, sides, over, Rest, CallWalk, term_sites, walk, sequent_of, GoalsValid, refinements, given, own_vars, own_input, clause_terms, demands_of, start, input_vars, fun_walk, call_walk, goal_site, ensures_site, fun_goals}
+use Rattle.fst_program.specs.Paths.{Gl, Way, count, suppose, suppose_all, choose, raised, all_raised, Side, sides, over, Rest, CallWalk, term_sites, walk, GoalsValid, refinements, given, own_vars, own_input, clause_terms, demands_of, start, input_vars, fun_walk, call_walk, goal_site, ensures_site, fun_goals}
 use Rattle.fst_terms.specs.Propositional.{TmPropositional}
 use Rattle.fst_top.specs.Built.{CmBuilt, ParamsBuilt, FnBuilt, sorts_of}
 use mathlib.Core.List.{reverse_aux}
 use Rattle.fst_program.proofs.SortedRunLemmas.{turned-have}
-use Rattle.fst_program.specs.Good.{HaveAll, HasInput, MayBeBounded, Pre, Post, IfGiven, clause_env, Settles, IsFine, IsOver, GoodAt, Good}
+use Rattle.fst_program.specs.Good.{HaveAll, Pre, Post, IfGiven, clause_env, IsFine, IsOver, GoodAt, Good}
 
 -- ---- built terms
 
@@ -175,7 +174,7 @@ module _ (M : Meaning) (P : Prog) (site : SiteKind → (place : ℕ) → Tm → 
       let e = put_values M us e0 in
       let same : put_values M (put us t ∷ all_raised (count w) w us) e0 ≡ value M t e ∷ e = ap₂ ◌∷◌ (put-value M us t e0) (ap (λ ts. put_values M ts e0) (all-raised-none (count w) w us refl)) in
       let fine = subst (λ e1. Fine M P Q c e1 input) same
-          (built-fine c (h.0 ∷ Ss) S (put us t ∷ all_raised (count w) w us) (raised (count w) w s) w k input Q h.1.1 hyps (valid-right M (term_sites P Gl site t us w) _ valid) rest) in
+      (built-fine c (h.0 ∷ Ss) S (put us t ∷ all_raised (count w) w us) (raised (count w) w s) w k input Q h.1.1 hyps (valid-right M (term_sites P Gl site t us w) _ valid) rest) in
       record {
         units = suc (1 + fine.units);
         result = fine.result;

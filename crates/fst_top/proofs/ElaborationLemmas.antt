@@ -1,5 +1,5 @@
 -- The equations of elaboration, a variant of the tree at a time.
-use Rattle.std.proofs.Common.{◌≡◌, ℕ, ℤ, Bool, List, [], ◌∷◌, map, length, get_or, Option, Some, None, arith, refl, sym, ap, ◌∙◌, rules}
+use Rattle.std.proofs.Common.{◌≡◌, ℕ, ℤ, Bool, List, [], ◌∷◌, map, length, get_or, Option, None, arith, refl, ◌∙◌, rules}
 use Rattle.fst_base.specs.declared.op.Op.{Op}
 use Rattle.fst_base.specs.declared.op.Op.TheVariants as op
 use Rattle.fst_base.specs.declared.place.Pos.{Pos}

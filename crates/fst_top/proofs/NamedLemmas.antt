@@ -1,5 +1,5 @@
 -- Whether a name is one of these, looked for from the first one on.
-use Rattle.std.proofs.Common.{◌≡◌, ℕ, zero, suc, ◌+◌, ◌≤◌, Bool, true, false, if◌then◌else◌, List, [], ◌∷◌, map, length, drop, slice_get, Some, refl, sym, ap, ◌∙◌, arith, Decides}
+use Rattle.std.proofs.Common.{◌≡◌, ℕ, zero, suc, ◌+◌, ◌≤◌, Bool, true, false, if◌then◌else◌, List, [], ◌∷◌, map, length, drop, slice_get, Some, refl, sym, ap, ◌∙◌, arith}
 use Rattle.fst_program.specs.declared.fun.Param.{Param}
 use Rattle.fst_terms.specs.Same.{same_name}
 use Rattle.fst_terms.proofs.SameLemmas.{same_name-decides}

@@ -24,7 +24,6 @@ use Rattle.fst_reader.specs.declared.sort.SortTree.TheOpen as S
 use Rattle.fst_reader.specs.declared.decl.EffectName.{EffectName}
 use Rattle.fst_reader.specs.declared.decl.EffectName.TheVariants as E
 use Rattle.fst_reader.specs.declared.decl.ParamTree.{ParamTree}
-use Rattle.fst_reader.specs.declared.decl.HeadTree.{HeadTree}
 use Rattle.fst_reader.specs.declared.decl.FunTree.{FunTree}
 use Rattle.fst_reader.specs.declared.decl.Decl.{Decl}
 use Rattle.fst_reader.specs.declared.decl.Decl.TheVariants as D

@@ -6,7 +6,7 @@ ghost use Rattle.fst_top.specs.Elaborating.{Gives, srt_of};
 ghost use Rattle.fst_top.specs.Scopes.{vars_in};
 
 use crate::elaborate::scope::Scope;
-use crate::elaborate::stop::{refuse, Stop};
+use crate::elaborate::stop::{Stop, refuse};
 use crate::elaborate::terms::elaborate_term;
 use crate::elaborate::typed::BuiltSort;
 use fst_base::Name;
@@ -43,7 +43,12 @@ pub fn elaborate_param(alloc: Global, tree: &ParamTree<Word>) -> Result<Param, S
         return Err(Stop::NotBuilt);
     }
     let name = tree.name.text.copy(alloc)?;
-    Ok(Param { name, sort: sort.sort(), hidden: false, refine: None })
+    Ok(Param {
+        name,
+        sort: sort.sort(),
+        hidden: false,
+        refine: None,
+    })
 }
 
 /// Whether a parameter has the name.
@@ -59,7 +64,11 @@ pub fn is_taken(params: &[Param], name: &Name) -> bool
 }
 
 /// A clause, where one stands: a formula.
-pub fn elaborate_clause(alloc: Global, clause: &Option<RawTerm>, scope: &Scope<'_>) -> Result<Option<Term>, Stop>
+pub fn elaborate_clause(
+    alloc: Global,
+    clause: &Option<RawTerm>,
+    scope: &Scope<'_>,
+) -> Result<Option<Term>, Stop>
     ensures { Gives (option_map plain_term) (clause_of clause.now (vars_in scope.now)) result }
 {
     match clause {

@@ -52,7 +52,10 @@ impl<'a> Scope<'a> {
             let binding = self.bindings[count - 1 - index];
             if binding.name.same(name) {
                 return match u32::try_from(index) {
-                    Ok(index) => Ok(TypedTerm { term: Term::Var(index), sort: binding.sort }),
+                    Ok(index) => Ok(TypedTerm {
+                        term: Term::Var(index),
+                        sort: binding.sort,
+                    }),
                     Err(_) => Err(Stop::NoMemory),
                 };
             }

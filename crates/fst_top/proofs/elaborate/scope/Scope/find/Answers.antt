@@ -1,8 +1,5 @@
-use Rattle.std.proofs.Common.{arith, ◌∙◌, sym, ap, Some}
+use Rattle.std.proofs.Common.{arith, ◌∙◌, sym}
 use Rattle.std.proofs.lemmas.Bool.{false≢true}
-use Rattle.fst_terms.proofs.PlainLemmas.{plain-term-Var}
-use Rattle.fst_top.specs.Elaboration.{typed}
-use Rattle.fst_top.specs.Elaborating.{srt_of}
 use Rattle.fst_top.proofs.ScopeLemmas.{step-here, step-there, var-typed}
 use Rattle.fst_top.proofs.elaborate.scope.Scope.find.Goals as goal
 

@@ -1,4 +1,4 @@
-use Rattle.std.proofs.Common.{◌≡◌, ℕ, ◌≤◌, drop, length}
+use Rattle.std.proofs.Common.{◌≡◌, drop}
 use Rattle.fst_top.specs.Elaboration.{variable}
 use Rattle.fst_top.specs.Scopes.{vars_in}
 use Rattle.fst_top.proofs.elaborate.scope.Scope.find.Given as goal
