@@ -1,5 +1,7 @@
 -- The sorts of the primitives.
 use Rattle.std.specs.Prelude.{◌≡◌, List, [], ◌∷◌, map, Bool, true, false}
+use denote.Enum.Bare.{sameb}
+use Rattle.fst_base.specs.contracts.op.Op.{the_type}
 use Rattle.fst_base.specs.declared.op.Op.{Op}
 use Rattle.fst_base.specs.declared.op.Op.TheVariants as op
 use Rattle.fst_base.specs.Sorts.{Srt, s_unit, s_bool, s_int, s_a, s_b, s_pair, s_opt, s_list, s_either, put_sorts}
@@ -73,3 +75,7 @@ is_inner op.The = true
 is_inner op.Outl = true
 is_inner op.Outr = true
 is_inner _ = false
+
+-- whether the two are the same primitive
+abbrev pub same_op : Op → Op → Bool
+same_op = sameb the_type

@@ -21,7 +21,7 @@ module _ (Applies : (k : ℕ) → List Srt → (S : Srt) → Type 0) where
     -- these terms have these sorts, each its own
     pub TmsSorted : (Ss : List Srt) → Tms → List Srt → Type 0
     TmsSorted Ss t_end Ts = Ts ≡ []
-    TmsSorted Ss (t_more t ts) Ts = (T : Srt) × ((Us : List Srt) × ((Ts ≡ T ∷ Us) × (TmSorted Ss t T × TmsSorted Ss ts Us)))
+    TmsSorted Ss (t_more t ts) Ts = (T : Srt) × ((Us : List Srt) × ((Ts ≡ T ∷ Us) × TmSorted Ss t T × TmsSorted Ss ts Us))
 
 -- a term that is run: it holds no application, no let and no selector that no program writes
 abbrev mutual

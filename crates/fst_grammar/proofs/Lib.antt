@@ -1,0 +1,5 @@
+pub mod KindSets
+pub mod Complete
+pub mod Sound
+pub mod Bounded
+pub mod Claims

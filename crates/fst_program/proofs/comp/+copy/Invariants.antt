@@ -1,0 +1,5 @@
+use Rattle.std.proofs.Common.{◌≡◌, take}
+use Rattle.fst_program.proofs.comp.+copy.Given as goal
+
+abbrev pub invariant-copy_arms-loop-arm : goal.invariant-copy_arms-loop-arm
+invariant-copy_arms-loop-arm l = l.copies ≡ take l.arm-index l.arms

@@ -1,0 +1,402 @@
+-- The productions, in the order of the grammar, each with the tree that it gives.
+--
+-- A family with a Bool is that of terms at false and of formulas at true. `{x}` and the tails of chains are nonterminals
+-- of their own, named `.._more`: the tree of a list's is the list, the tree of a chain's puts what was read before
+-- together with what follows.
+use Rattle.std.specs.Prelude.{ℕ, zero, suc, min, Bool, true, false, List, [], ◌∷◌, Option, Some, None, unwrap_or}
+use Rattle.fst_base.specs.declared.op.Op.TheVariants as op
+use Rattle.fst_base.specs.declared.place.Pos.{Pos}
+use Rattle.fst_reader.specs.declared.terminal.Terminal.{Terminal}
+use Rattle.fst_reader.specs.declared.terminal.Terminal.TheVariants as k
+use Rattle.fst_reader.specs.declared.word.Word.{Word}
+use Rattle.fst_reader.specs.declared.sort.SortTree.{SortTree}
+use Rattle.fst_reader.specs.declared.sort.SortTree.TheVariants as S
+use Rattle.fst_reader.specs.declared.operator.Operator.{Operator}
+use Rattle.fst_reader.specs.declared.operator.Comparison.{Comparison}
+use Rattle.fst_reader.specs.declared.operator.Relation.TheVariants as L
+use Rattle.fst_reader.specs.declared.operator.Digits.{Digits}
+use Rattle.fst_reader.specs.declared.pattern.ArmTree.{ArmTree}
+use Rattle.fst_reader.specs.declared.pattern.Pattern.{Pattern}
+use Rattle.fst_reader.specs.declared.pattern.ConWord.TheVariants as C
+use Rattle.fst_reader.specs.declared.body.BodyTree.{BodyTree}
+use Rattle.fst_reader.specs.declared.body.BodyTree.TheVariants as B
+use Rattle.fst_reader.specs.declared.body.PartTree.{PartTree}
+use Rattle.fst_reader.specs.declared.body.PartNode.TheVariants as P
+use Rattle.fst_reader.specs.declared.body.Binding.{Binding}
+use Rattle.fst_reader.specs.declared.definition.DmTree.{DmTree}
+use Rattle.fst_reader.specs.declared.definition.DmTree.TheVariants as D
+use Rattle.fst_reader.specs.declared.decl.Decl.{Decl}
+use Rattle.fst_reader.specs.declared.decl.Decl.TheVariants as M
+use Rattle.fst_reader.specs.declared.decl.EffectTree.{EffectTree}
+use Rattle.fst_reader.specs.declared.decl.LiftTree.{LiftTree}
+use Rattle.fst_reader.specs.declared.decl.FunTree.{FunTree}
+use Rattle.fst_reader.specs.declared.decl.HeadTree.{HeadTree}
+use Rattle.fst_reader.specs.declared.decl.ParamTree.{ParamTree}
+use Rattle.fst_reader.specs.declared.decl.EffectName.{EffectName}
+use Rattle.fst_reader.specs.declared.decl.EffectName.TheVariants as E
+use Rattle.fst_grammar.specs.Grammar as G
+use Rattle.fst_grammar.specs.Grammar.{Code, Rule, El, pair, tree, maybe, token, mark, empty, seq, alt, act, call}
+use Rattle.fst_reader.specs.Tokens.{Token, alphabet}
+use Rattle.fst_reader.specs.Trees as t
+use Rattle.fst_reader.specs.Trees.{Tree}
+
+-- The nonterminals; `{x}` and what follows a first operand are nonterminals of their own.
+pub data N : Type 0 where
+  program decl : N
+  effect base two_names three_names lift : N
+  fun head needs gives measures depth : N
+  measures_more : ℕ → N
+  effname params param refinement : N
+  sort sort_more sat : N
+  body block binding annotation part after_name rest : N
+  arms arms_more arm : N
+  dm dm_block dm_binding dmpart dm_after_name : N
+  dm_arms dm_arms_more dm_arm : N
+  pattern : N
+  term implies_more disj disj_more conj conj_more cmp cmp_more con con_more sum sum_more prod prod_more : Bool → N
+  un other negated app solid prefix named plain inner inner_more args args_more items items_more : Bool → N
+  comparison sum_operator prod_operator prefix_operator : N
+  name binder number small : N
+
+-- what each gives
+abbrev pub T : N → Type 0
+T program = List (Decl Word)
+T decl = Decl Word
+T effect = EffectTree Word
+T base = Bool
+T two_names = List Word
+T three_names = List Word
+T lift = LiftTree Word
+T fun = FunTree Word
+T head = HeadTree Word
+T needs = Option Tree
+T gives = Option Tree
+T measures = List Tree
+T (measures_more n) = List Tree
+T depth = ℕ
+T effname = EffectName Word
+T params = List (ParamTree Word)
+T param = ParamTree Word
+T refinement = Option Tree
+T sort = SortTree Word
+T sat = SortTree Word
+T sort_more = Option (SortTree Word)
+T body = BodyTree Word
+T block = BodyTree Word
+T binding = Binding (PartTree Word)
+T annotation = Option (SortTree Word)
+T part = PartTree Word
+T after_name = Word → PartTree Word
+T rest = Tree → Tree
+T arms = List (ArmTree (BodyTree Word))
+T arms_more = List (ArmTree (BodyTree Word))
+T arm = ArmTree (BodyTree Word)
+T dm = DmTree Word
+T dm_block = DmTree Word
+T dm_binding = Binding (DmTree Word)
+T dmpart = DmTree Word
+T dm_after_name = Word → DmTree Word
+T dm_arms = List (ArmTree (DmTree Word))
+T dm_arms_more = List (ArmTree (DmTree Word))
+T dm_arm = ArmTree (DmTree Word)
+T pattern = Pattern
+T (implies_more f) = Tree → Tree
+T (disj_more f) = Tree → Tree
+T (conj_more f) = Tree → Tree
+T (cmp_more f) = Tree → Tree
+T (con_more f) = Tree → Tree
+T (sum_more f) = Tree → Tree
+T (prod_more f) = Tree → Tree
+T (negated f) = Pos → Tree
+T (inner f) = Pos → Tree
+T (inner_more f) = Tree → Pos → Tree
+T (args f) = List Tree
+T (args_more f) = List Tree
+T (items f) = List Tree
+T (items_more f) = List Tree
+T comparison = Comparison
+T sum_operator = Operator
+T prod_operator = Operator
+T prefix_operator = Operator
+T name = Word
+T binder = Word
+T number = Digits
+T small = ℕ
+T (term f) = Tree
+T (disj f) = Tree
+T (conj f) = Tree
+T (cmp f) = Tree
+T (con f) = Tree
+T (sum f) = Tree
+T (prod f) = Tree
+T (un f) = Tree
+T (other f) = Tree
+T (app f) = Tree
+T (solid f) = Tree
+T (prefix f) = Tree
+T (named f) = Tree
+T (plain f) = Tree
+
+abbrev pub R : Code alphabet N T → Type 0
+R = Rule alphabet N T
+
+infixr 20 ◌⋅◌
+abbrev pub ◌⋅◌ : {c d : Code alphabet N T} → R c → R d → R (pair c d)
+r ⋅ q = seq r q
+
+-- a mark or a word, of which nothing is kept
+infixr 20 ◌▸◌
+abbrev pub ◌▸◌ : {c : Code alphabet N T} → Terminal → R c → R c
+k ▸ r = act (λ p. p.1) (seq (mark k) r)
+
+infixl 21 ◌◂◌
+abbrev pub ◌◂◌ : {c : Code alphabet N T} → R c → Terminal → R c
+r ◂ k = act (λ p. p.0) (seq r (mark k))
+
+infixr 10 ◌∣◌
+abbrev pub ◌∣◌ : {c : Code alphabet N T} → R c → R c → R c
+r ∣ q = alt r q
+
+infixr 15 ◌⇐◌
+abbrev pub ◌⇐◌ : {c d : Code alphabet N T} → (El alphabet N T c → El alphabet N T d) → R c → R d
+f ⇐ r = act f r
+
+abbrev pub optional : {c : Code alphabet N T} → R c → R (maybe c)
+optional r = G.opt alphabet N T r
+
+abbrev pub word : Token → Word
+word t = record { text = t.text; at = alphabet.place t }
+
+abbrev pub digits : Token → Digits
+digits u = record { at = alphabet.place u; magnitude = t.magnitude u.text }
+
+abbrev pub product : SortTree Word → Option (SortTree Word) → SortTree Word
+product s None = s
+product s (Some q) = S.Pair s q
+
+abbrev pub term_part : Tree → PartTree Word
+term_part a = record { at = a.at; node = P.Term a }
+
+abbrev pub in_call : Word → Option (List Tree) → Tree
+in_call w None = t.ident w
+in_call w (Some arguments) = t.applied w arguments
+
+-- the one or two terms that a definition's text runs a computation on
+abbrev pub one_or_two : Tree → Option Tree → List Tree
+one_or_two a None = a ∷ []
+one_or_two a (Some b) = a ∷ b ∷ []
+
+-- 'true' | 'false' | 'none' | '(' .. | '[' .. ; this and the rows of `inner` that terms and formulas share
+abbrev pub atom_rows : (f : Bool) → R (tree (plain f))
+atom_rows f = (λ p. t.truth true p) ⇐ mark k.True
+    ∣ (λ p. t.truth false p) ⇐ mark k.False
+    ∣ (λ p. t.nullary op.Nothing p) ⇐ mark k.None
+    ∣ (λ p. p.1 p.0) ⇐ mark k.LeftParen ⋅ call (inner f)
+    ∣ (λ p. t.listed p.0 p.1) ⇐ mark k.LeftBracket ⋅ call (items f)
+
+abbrev pub inner_rows : (f : Bool) → R (tree (inner f))
+inner_rows f = (λ _ p. t.unit p) ⇐ mark k.RightParen
+    ∣ (λ p _. t.choice p.0 p.1.0 p.1.1.0 p.1.1.1) ⇐ mark k.If ⋅ call (term f) ⋅ k.Then ▸ call (term f) ⋅ k.Else ▸ call (term f) ◂ k.RightParen
+    ∣ (λ p at. p.1 p.0 at) ⇐ call (term f) ⋅ call (inner_more f)
+
+abbrev pub rule : (n : N) → R (tree n)
+rule program = (λ p. p.0 ∷ p.1) ⇐ call decl ⋅ call program
+    ∣ (λ _. []) ⇐ empty
+rule decl = M.Effect ⇐ call effect
+    ∣ M.Lift ⇐ call lift
+    ∣ M.Fun ⇐ call fun
+
+rule effect = (λ p. record { name = p.0; div = p.1.0; input = p.1.1.0; result = p.1.1.1.0; ret_names = p.1.1.1.1.0; ret = p.1.1.1.1.1.0; bind_names = p.1.1.1.1.1.1.0; bind = p.1.1.1.1.1.1.1 })
+    ⇐ k.Effect ▸ call name ⋅ k.Colon ▸ call base ⋅ k.Input ▸ call sort ⋅ k.Result ▸ call sort ⋅ k.Return ▸ call two_names ⋅ call dm_block ⋅ k.Bind ▸ call three_names ⋅ call dm_block
+rule base = (λ _. false) ⇐ mark k.PureEffect
+    ∣ (λ _. true) ⇐ mark k.DivEffect
+rule two_names = (λ p. p.0 ∷ p.1 ∷ []) ⇐ call binder ⋅ call binder
+rule three_names = (λ p. p.0 ∷ p.1.0 ∷ p.1.1 ∷ []) ⇐ call binder ⋅ call binder ⋅ call binder
+
+rule lift = (λ p. record { at = p.0; from = p.1.0; «to» = p.1.1.0; names = p.1.1.1.0; text = p.1.1.1.1 })
+    ⇐ mark k.Lift ⋅ call name ⋅ k.To ▸ call name ⋅ k.By ▸ call two_names ⋅ call dm_block
+
+rule fun = (λ p. record { head = p.0; joined = false; body = p.1 }) ⇐ call head ⋅ call block
+rule head = (λ p. record { name = p.0; params = p.1.0; effect = p.1.1.0; sort = p.1.1.1.0; needs = p.1.1.1.1.0; gives = p.1.1.1.1.1.0; measures = p.1.1.1.1.1.1.0; «unfold» = p.1.1.1.1.1.1.1 })
+    ⇐ k.Fun ▸ call name ⋅ call params ⋅ k.Colon ▸ call effname ⋅ call sort ⋅ call needs ⋅ call gives ⋅ call measures ⋅ call depth
+rule needs = (λ a. a) ⇐ optional (k.Requires ▸ call (term true))
+rule gives = (λ a. a) ⇐ optional (k.Ensures ▸ call (term true))
+-- at most four forms
+rule measures = (λ p. p.0 ∷ p.1) ⇐ k.Decreases ▸ call (term true) ⋅ call (measures_more 3)
+    ∣ (λ _. []) ⇐ empty
+rule (measures_more zero) = (λ _. []) ⇐ empty
+rule (measures_more (suc n)) = (λ p. p.0 ∷ p.1) ⇐ k.Comma ▸ call (term true) ⋅ call (measures_more n)
+    ∣ (λ _. []) ⇐ empty
+rule depth = (λ n. n) ⇐ k.Unfold ▸ call small
+    ∣ (λ _. 1) ⇐ empty
+
+rule effname = (λ _. E.Pure) ⇐ mark k.PureEffect
+    ∣ (λ _. E.Ghost) ⇐ mark k.GhostEffect
+    ∣ (λ _. E.Div) ⇐ mark k.DivEffect
+    ∣ E.User ⇐ call name
+rule params = (λ p. p.0 ∷ p.1) ⇐ call param ⋅ call params
+    ∣ (λ _. []) ⇐ empty
+rule param = (λ p. record { hidden = t.is_there p.0; name = p.1.0; sort = p.1.1.0; refine = p.1.1.1 })
+    ⇐ optional (mark k.Ghost) ⋅ k.LeftParen ▸ call binder ⋅ k.Colon ▸ call sort ⋅ call refinement ◂ k.RightParen
+rule refinement = (λ a. a) ⇐ optional (k.LeftBrace ▸ call (term true) ◂ k.RightBrace)
+
+rule sort = (λ p. product p.0 p.1) ⇐ call sat ⋅ call sort_more
+rule sort_more = (λ a. a) ⇐ optional (k.Star ▸ call sort)
+rule sat = (λ _. S.Unit) ⇐ mark k.Unit
+    ∣ (λ _. S.Bool) ⇐ mark k.Bool
+    ∣ (λ _. S.Int) ⇐ mark k.Int
+    ∣ S.Opt ⇐ k.Option ▸ call sat
+    ∣ S.List ⇐ k.List ▸ call sat
+    ∣ (λ p. S.Either p.0 p.1) ⇐ k.Either ▸ call sat ⋅ call sat
+    ∣ S.Ident ⇐ call name
+    ∣ (λ s. s) ⇐ k.LeftParen ▸ call sort ◂ k.RightParen
+
+rule body = (λ p. B.GhostLet p.0.name p.0.sort p.0.part p.1) ⇐ k.Ghost ▸ k.Let ▸ call binding ⋅ call body
+    ∣ (λ p. B.Let p.0.name p.0.sort p.0.part p.1) ⇐ k.Let ▸ call binding ⋅ call body
+    ∣ (λ p. B.Assert p.1.0 p.0 p.1.1) ⇐ mark k.Assert ⋅ call (term true) ⋅ k.Semicolon ▸ call body
+    ∣ (λ p. B.If p.0 p.1.0 p.1.1) ⇐ k.If ▸ call (term false) ⋅ k.Then ▸ call body ⋅ k.Else ▸ call body
+    ∣ (λ p. B.Match p.1.0 p.0 p.1.1) ⇐ mark k.Match ⋅ call (term false) ⋅ k.With ▸ call arms ◂ k.EndWord
+    ∣ B.Part ⇐ call part
+rule block = (λ a. a) ⇐ k.LeftBrace ▸ call body ◂ k.RightBrace
+rule binding = (λ p. record { name = p.0; sort = p.1.0; part = p.1.1 }) ⇐ call binder ⋅ call annotation ⋅ k.Equal ▸ call part ◂ k.In
+rule annotation = (λ a. a) ⇐ optional (k.Colon ▸ call sort)
+
+-- NAME '(' [term {',' term}] ')' and the terms that begin with a NAME are the fourth row: the token after the NAME settles
+-- which. Other terms are the fifth.
+rule part = (λ p. record { at = p.0; node = P.Block p.1 }) ⇐ mark k.LeftBrace ⋅ call body ◂ k.RightBrace
+    ∣ (λ p. record { at = p.0; node = P.Reify p.1.0 p.1.1.0 p.1.1.1.0 p.1.1.1.1 }) ⇐ mark k.Reify ⋅ call name ⋅ call sort ⋅ call block ⋅ k.LeftParen ▸ call (term false) ◂ k.RightParen
+    ∣ (λ p. record { at = p.0; node = P.Reflect p.1.0 p.1.1.0 p.1.1.1.0 p.1.1.1.1 }) ⇐ mark k.Reflect ⋅ call name ⋅ call sort ⋅ k.LeftParen ▸ call binder ⋅ k.RightParen ▸ call block
+    ∣ (λ p. p.1 p.0) ⇐ call name ⋅ call after_name
+    ∣ (λ p. term_part (p.1 p.0)) ⇐ call (other false) ⋅ call rest
+rule after_name = (λ arguments w. record { at = w.at; node = P.Call w arguments }) ⇐ k.LeftParen ▸ call (args false)
+    ∣ (λ more w. term_part (more (t.ident w))) ⇐ call rest
+-- what may follow the first operand of a term
+rule rest = (λ p a. p.1.1.1.1.1.1 (p.1.1.1.1.1.0 (p.1.1.1.1.0 (p.1.1.1.0 (p.1.1.0 (p.1.0 (p.0 a)))))))
+    ⇐ call (prod_more false) ⋅ call (sum_more false) ⋅ call (con_more false) ⋅ call (cmp_more false) ⋅ call (conj_more false) ⋅ call (disj_more false) ⋅ call (implies_more false)
+
+rule arms = (λ p. p.0 ∷ p.1) ⇐ call arm ⋅ call arms_more
+rule arms_more = (λ p. p.0 ∷ p.1) ⇐ call arm ⋅ call arms_more
+    ∣ (λ _. []) ⇐ empty
+rule arm = (λ p. record { at = p.0.at; con = p.0.con; names = p.0.names; body = p.1 }) ⇐ k.Bar ▸ call pattern ⋅ k.Arrow ▸ call body
+
+rule dm = (λ p. D.Let p.0.name p.0.sort p.0.part p.1) ⇐ k.Let ▸ call dm_binding ⋅ call dm
+    ∣ (λ p. D.If p.0 p.1.0 p.1.1) ⇐ k.If ▸ call (term false) ⋅ k.Then ▸ call dm ⋅ k.Else ▸ call dm
+    ∣ (λ p. D.Match p.1.0 p.0 p.1.1) ⇐ mark k.Match ⋅ call (term false) ⋅ k.With ▸ call dm_arms ◂ k.EndWord
+    ∣ (λ a. a) ⇐ call dmpart
+rule dm_block = (λ a. a) ⇐ k.LeftBrace ▸ call dm ◂ k.RightBrace
+rule dm_binding = (λ p. record { name = p.0; sort = p.1.0; part = p.1.1 }) ⇐ call binder ⋅ call annotation ⋅ k.Equal ▸ call dmpart ◂ k.In
+
+-- NAME '(' term ')', NAME '(' term ',' term ')' and the terms that begin with a NAME are the second row, other terms the third.
+rule dmpart = (λ p. D.Block p.0 p.1) ⇐ mark k.LeftBrace ⋅ call dm ◂ k.RightBrace
+    ∣ (λ p. p.1 p.0) ⇐ call name ⋅ call dm_after_name
+    ∣ (λ p. D.Term (p.1 p.0)) ⇐ call (other false) ⋅ call rest
+rule dm_after_name = (λ p w. D.Run w (one_or_two p.0 p.1)) ⇐ k.LeftParen ▸ call (term false) ⋅ optional (k.Comma ▸ call (term false)) ◂ k.RightParen
+    ∣ (λ more w. D.Term (more (t.ident w))) ⇐ call rest
+rule dm_arms = (λ p. p.0 ∷ p.1) ⇐ call dm_arm ⋅ call dm_arms_more
+rule dm_arms_more = (λ p. p.0 ∷ p.1) ⇐ call dm_arm ⋅ call dm_arms_more
+    ∣ (λ _. []) ⇐ empty
+rule dm_arm = (λ p. record { at = p.0.at; con = p.0.con; names = p.0.names; body = p.1 }) ⇐ k.Bar ▸ call pattern ⋅ k.Arrow ▸ call dm
+
+rule pattern = (λ p. record { at = p; con = C.True; names = [] }) ⇐ mark k.True
+    ∣ (λ p. record { at = p; con = C.False; names = [] }) ⇐ mark k.False
+    ∣ (λ p. record { at = p; con = C.Empty; names = [] }) ⇐ mark k.None
+    ∣ (λ p. record { at = p.0; con = C.Full; names = p.1 ∷ [] }) ⇐ mark k.Some ⋅ call binder
+    ∣ (λ p. record { at = p; con = C.Nil; names = [] }) ⇐ mark k.LeftBracket ◂ k.RightBracket
+    ∣ (λ p. record { at = p.0.at; con = C.Cons; names = p.0 ∷ p.1 ∷ [] }) ⇐ call binder ⋅ k.ColonColon ▸ call binder
+    ∣ (λ p. record { at = p.0; con = C.Left; names = p.1 ∷ [] }) ⇐ mark k.Inl ⋅ call binder
+    ∣ (λ p. record { at = p.0; con = C.Right; names = p.1 ∷ [] }) ⇐ mark k.Inr ⋅ call binder
+    ∣ (λ p. record { at = p.0; con = C.Pair; names = p.1.0 ∷ p.1.1 ∷ [] }) ⇐ mark k.LeftParen ⋅ call binder ⋅ k.Comma ▸ call binder ◂ k.RightParen
+
+-- Terms at false, formulas at true. Chains of || && + - * / % nest to the left, ==> and :: to the right.
+rule (term f) = (λ p. p.1 p.0) ⇐ call (disj f) ⋅ call (implies_more f)
+rule (implies_more f) = (λ p a. t.implied p.0 a p.1) ⇐ mark k.Implies ⋅ call (term f)
+    ∣ (λ _ a. a) ⇐ empty
+rule (disj f) = (λ p. p.1 p.0) ⇐ call (conj f) ⋅ call (disj_more f)
+rule (disj_more f) = (λ p a. p.1.1 (t.either p.0 a p.1.0)) ⇐ mark k.BarBar ⋅ call (conj f) ⋅ call (disj_more f)
+    ∣ (λ _ a. a) ⇐ empty
+rule (conj f) = (λ p. p.1 p.0) ⇐ call (cmp f) ⋅ call (conj_more f)
+rule (conj_more f) = (λ p a. p.1.1 (t.both p.0 a p.1.0)) ⇐ mark k.AmpAmp ⋅ call (cmp f) ⋅ call (conj_more f)
+    ∣ (λ _ a. a) ⇐ empty
+rule (cmp f) = (λ p. p.1 p.0) ⇐ call (con f) ⋅ call (cmp_more f)
+rule (cmp_more f) = (λ p a. t.compared p.0 a p.1) ⇐ call comparison ⋅ call (con f)
+    ∣ (λ _ a. a) ⇐ empty
+rule comparison = (λ p. record { relation = L.Equal; at = p }) ⇐ mark k.Equal
+    ∣ (λ p. record { relation = L.NotEqual; at = p }) ⇐ mark k.NotEqual
+    ∣ (λ p. record { relation = L.LessEqual; at = p }) ⇐ mark k.LessEqual
+    ∣ (λ p. record { relation = L.Less; at = p }) ⇐ mark k.Less
+    ∣ (λ p. record { relation = L.GreaterEqual; at = p }) ⇐ mark k.GreaterEqual
+    ∣ (λ p. record { relation = L.Greater; at = p }) ⇐ mark k.Greater
+rule (con f) = (λ p. p.1 p.0) ⇐ call (sum f) ⋅ call (con_more f)
+rule (con_more f) = (λ p a. t.binary op.Cons p.0 a p.1) ⇐ mark k.ColonColon ⋅ call (con f)
+    ∣ (λ _ a. a) ⇐ empty
+rule (sum f) = (λ p. p.1 p.0) ⇐ call (prod f) ⋅ call (sum_more f)
+rule (sum_more f) = (λ p a. p.1.1 (t.operated p.0 a p.1.0)) ⇐ call sum_operator ⋅ call (prod f) ⋅ call (sum_more f)
+    ∣ (λ _ a. a) ⇐ empty
+rule sum_operator = (λ p. record { op = op.Add; at = p }) ⇐ mark k.Plus
+    ∣ (λ p. record { op = op.Sub; at = p }) ⇐ mark k.Minus
+rule (prod f) = (λ p. p.1 p.0) ⇐ call (un f) ⋅ call (prod_more f)
+rule (prod_more f) = (λ p a. p.1.1 (t.operated p.0 a p.1.0)) ⇐ call prod_operator ⋅ call (un f) ⋅ call (prod_more f)
+    ∣ (λ _ a. a) ⇐ empty
+rule prod_operator = (λ p. record { op = op.Mul; at = p }) ⇐ mark k.Star
+    ∣ (λ p. record { op = op.Div; at = p }) ⇐ mark k.Slash
+    ∣ (λ p. record { op = op.Rem; at = p }) ⇐ mark k.Percent
+
+-- un, app and atom, where '-' NUMBER is a literal: `other` is un but for a NAME, `negated` what follows the '-' of
+-- '-' un or of '-' NUMBER, `solid` app but for a number, `named` and `plain` an atom but for a number.
+rule (un f) = (λ a. a) ⇐ call (named f)
+    ∣ (λ a. a) ⇐ call (other f)
+rule (other f) = (λ p. p.1 p.0) ⇐ mark k.Minus ⋅ call (negated f)
+    ∣ (λ p. t.negation p.0 p.1) ⇐ mark k.Not ⋅ call (un f)
+    ∣ (λ n. t.literal n.at n.magnitude) ⇐ call number
+    ∣ (λ a. a) ⇐ call (prefix f)
+    ∣ (λ a. a) ⇐ call (plain f)
+rule (negated f) = (λ n p. t.negative p n.magnitude) ⇐ call number
+    ∣ (λ q p. t.unary op.Neg p (q.1 q.0)) ⇐ mark k.Minus ⋅ call (negated f)
+    ∣ (λ q p. t.unary op.Neg p (t.negation q.0 q.1)) ⇐ mark k.Not ⋅ call (un f)
+    ∣ (λ a p. t.unary op.Neg p a) ⇐ call (solid f)
+rule (app f) = (λ p. t.negative p.0 p.1.magnitude) ⇐ mark k.Minus ⋅ call number
+    ∣ (λ n. t.literal n.at n.magnitude) ⇐ call number
+    ∣ (λ a. a) ⇐ call (solid f)
+rule (solid f) = (λ a. a) ⇐ call (named f)
+    ∣ (λ a. a) ⇐ call (prefix f)
+    ∣ (λ a. a) ⇐ call (plain f)
+rule (prefix f) = (λ p. t.unary p.0.op p.0.at p.1) ⇐ call prefix_operator ⋅ call (app f)
+rule prefix_operator = (λ p. record { op = op.Fst; at = p }) ⇐ mark k.Fst
+    ∣ (λ p. record { op = op.Snd; at = p }) ⇐ mark k.Snd
+    ∣ (λ p. record { op = op.Just; at = p }) ⇐ mark k.Some
+    ∣ (λ p. record { op = op.Inl; at = p }) ⇐ mark k.Inl
+    ∣ (λ p. record { op = op.Inr; at = p }) ⇐ mark k.Inr
+    ∣ (λ p. record { op = op.Len; at = p }) ⇐ mark k.Len
+-- NAME, and in a formula NAME '(' [form {',' form}] ')'
+rule (named false) = t.ident ⇐ call name
+rule (named true) = (λ p. in_call p.0 p.1) ⇐ call name ⋅ optional (k.LeftParen ▸ call (args true))
+-- the words `result` and `input` are used as names in formulas
+rule (plain false) = atom_rows false
+rule (plain true) = (λ p. t.ident (t.the_word t.result_text p)) ⇐ mark k.Result
+    ∣ (λ p. t.ident (t.the_word t.input_text p)) ⇐ mark k.Input
+    ∣ atom_rows true
+-- what follows '(': ')' | 'if' .. ')' | term ')' | term ',' term ')', and in a formula 'let' NAME '=' form 'in' form ')'
+rule (inner false) = inner_rows false
+rule (inner true) = (λ p _. t.let_in p.0 p.1.0 p.1.1.0 p.1.1.1) ⇐ mark k.Let ⋅ call binder ⋅ k.Equal ▸ call (term true) ⋅ k.In ▸ call (term true) ◂ k.RightParen
+    ∣ inner_rows true
+rule (inner_more f) = (λ _ a _. a) ⇐ mark k.RightParen
+    ∣ (λ b a p. t.binary op.Pair p a b) ⇐ k.Comma ▸ call (term f) ◂ k.RightParen
+-- what follows the '(' of a call
+rule (args f) = (λ _. []) ⇐ mark k.RightParen
+    ∣ (λ p. p.0 ∷ p.1) ⇐ call (term f) ⋅ call (args_more f) ◂ k.RightParen
+rule (args_more f) = (λ p. p.0 ∷ p.1) ⇐ k.Comma ▸ call (term f) ⋅ call (args_more f)
+    ∣ (λ _. []) ⇐ empty
+-- what follows a '['
+rule (items f) = (λ _. []) ⇐ mark k.RightBracket
+    ∣ (λ p. p.0 ∷ p.1) ⇐ call (term f) ⋅ call (items_more f) ◂ k.RightBracket
+rule (items_more f) = (λ p. p.0 ∷ p.1) ⇐ k.Semicolon ▸ call (term f) ⋅ call (items_more f)
+    ∣ (λ _. []) ⇐ empty
+
+rule name = word ⇐ token k.Name
+-- a NAME that may be `_`
+rule binder = word ⇐ token k.Name
+    ∣ word ⇐ token k.Hole
+rule number = digits ⇐ token k.Small
+    ∣ digits ⇐ token k.Number
+-- a number from 0 to 4
+rule small = (λ u. min (t.decimal u.text) 4) ⇐ token k.Small

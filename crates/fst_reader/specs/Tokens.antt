@@ -1,0 +1,33 @@
+-- Tokens as the grammar sees them.
+use Rattle.std.specs.Prelude.{ℕ, Bool, List, [], ◌∷◌}
+use denote.Enum.Bare.{sameb}
+use Rattle.fst_reader.specs.contracts.terminal.Terminal.{the_type}
+use Rattle.fst_reader.specs.declared.terminal.Terminal.{Terminal}
+use Rattle.fst_reader.specs.declared.terminal.Terminal.TheVariants as k
+use Rattle.fst_reader.specs.declared.lexeme.Lexeme.{Lexeme}
+use Rattle.fst_base.specs.declared.place.Pos.{Pos}
+use Rattle.fst_grammar.specs.Alphabet.{Alphabet}
+
+-- a token: its terminal, the offset of its first byte, and its bytes
+pub record Token : Type 0 where
+  pub terminal : Terminal
+  pub at : ℕ
+  pub text : List ℕ
+
+abbrev pub token_of : Lexeme → Token
+token_of l = record { terminal = l.terminal; at = l.at; text = l.text.now }
+
+abbrev pub spelling : Terminal → List ℕ
+spelling _ = []
+
+abbrev pub alphabet : Alphabet
+alphabet = record {
+  Kind = Terminal;
+  Token = Token;
+  Place = Pos;
+  same = sameb the_type;
+  End = k.End;
+  kind = λ t. t.terminal;
+  place = λ t. record { at = t.at };
+  example = λ k. record { terminal = k; at = 0; text = spelling k };
+}

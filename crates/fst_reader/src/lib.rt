@@ -1,0 +1,23 @@
+//! From bytes to the tree that the grammar gives, or the one refusal that is due.
+#![tactic(auto)]
+
+mod body;
+mod decl;
+mod definition;
+mod form;
+mod lexeme;
+mod operator;
+mod pattern;
+mod reader;
+mod sort;
+mod sorts;
+mod terminal;
+mod word;
+
+pub use body::{BodyTree, PartNode, PartTree};
+pub use decl::{Decl, EffectName, EffectTree, FunTree, HeadTree, LiftTree, ParamTree, RawDecl, RawProgram, RawTerm};
+pub use definition::DmTree;
+pub use form::{Form, FormNode};
+pub use pattern::{ArmTree, ConWord};
+pub use sort::SortTree;
+pub use word::Word;

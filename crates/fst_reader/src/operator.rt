@@ -1,0 +1,32 @@
+use fst_base::{Op, Pos};
+
+/// An operator at its place.
+#[derive(Clone, Copy, Debug)]
+pub struct Operator {
+    pub op: Op,
+    pub at: Pos,
+}
+
+#[derive(Clone, Copy, Debug, PartialEq, Eq)]
+pub enum Relation {
+    Equal,
+    NotEqual,
+    LessEqual,
+    Less,
+    GreaterEqual,
+    Greater,
+}
+
+/// A comparison at its place.
+#[derive(Clone, Copy, Debug)]
+pub struct Comparison {
+    pub relation: Relation,
+    pub at: Pos,
+}
+
+/// A number at its place; a magnitude past 128 bits stands at 2^127.
+#[derive(Clone, Copy, Debug)]
+pub struct Digits {
+    pub at: Pos,
+    pub magnitude: u128,
+}

@@ -1,0 +1,10 @@
+pub mod ManyLemmas
+pub mod CharacterLemmas
+pub mod BlankLemmas
+pub mod WordLemmas
+pub mod NameLemmas
+pub mod MarkLemmas
+pub mod LexemeLemmas
+pub mod ScanLemmas
+pub mod NextLemmas
+pub mod Examples

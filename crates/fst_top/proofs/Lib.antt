@@ -1,0 +1,3 @@
+pub mod BuiltGood
+pub mod ElaborationLemmas
+pub mod ScopeLemmas

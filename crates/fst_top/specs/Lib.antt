@@ -1,0 +1,4 @@
+pub mod Built
+pub mod Elaboration
+pub mod Elaborating
+pub mod Scopes
