@@ -2,7 +2,7 @@
 use Rattle.std.specs.Prelude.{ℕ, Bool, true, false, ◌&&◌, List, [], ◌∷◌, map, codes, ◌==◌, ◌≡◌}
 use Rattle.std.specs.Cmp.Lexicographic.{pointwise}
 use Rattle.fst_base.specs.Rows.{row_args, row_result}
-use Rattle.fst_base.specs.Sorts.{Srt, s_unit, s_bool, s_int, s_a, s_b, s_pair, s_opt, s_list, s_either}
+use Rattle.fst_base.specs.Sorts.{Srt, s_unit, s_bool, s_int, s_a, s_b, s_pair, s_opt, s_list, s_either, same_sort}
 use Rattle.fst_base.specs.declared.op.Op.{Op}
 use Rattle.fst_base.specs.declared.op.Op.TheVariants as op
 use Rattle.fst_prims.specs.declared.table.Row.{Row}
@@ -53,19 +53,6 @@ pub record IsRow (o : Op) (r : Row) : Type 0 where
   pub name : r.name.now ≡ name_of o
   pub args : map sort_of r.args.now ≡ row_args o
   pub result : sort_of r.result ≡ row_result o
-
--- whether the two are one sort
-abbrev pub same_sort : Srt → Srt → Bool
-same_sort s_unit s_unit = true
-same_sort s_bool s_bool = true
-same_sort s_int s_int = true
-same_sort s_a s_a = true
-same_sort s_b s_b = true
-same_sort (s_pair S T) (s_pair U V) = same_sort S U && same_sort T V
-same_sort (s_opt S) (s_opt T) = same_sort S T
-same_sort (s_list S) (s_list T) = same_sort S T
-same_sort (s_either S T) (s_either U V) = same_sort S U && same_sort T V
-same_sort _ _ = false
 
 -- whether the row is that of the primitive
 abbrev pub is_row : Op → Row → Bool

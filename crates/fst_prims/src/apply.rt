@@ -20,6 +20,9 @@ impl Prims<24> {
     ghost use Rattle.fst_prims.specs.Arguments.{AreArguments};
 
     /// What a primitive gives on these arguments, where `sort` is the sort of its result.
+    ///
+    /// `PastRange` where that is a number outside 128 bits, `ZeroDivisor` at a division or a
+    /// remainder by 0.
     pub fn apply(
         &self,
         alloc: Global,

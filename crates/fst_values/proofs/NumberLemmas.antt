@@ -1,5 +1,5 @@
 -- Digits, and the number that they write.
-use Rattle.std.proofs.Common.{◌≡◌, ℕ, ◌+◌, ◌-◌, ◌*◌, ◌<◌, ◌≤◌, List, length, take, get_or, [], ◌∷◌, Bool, true, false, ◌&&◌, nat_lt, arith, refl, ap, ap₂, ◌∙◌}
+use Rattle.std.proofs.Common.{◌≡◌, ℕ, ◌+◌, ◌-◌, ◌*◌, ◌<◌, ◌≤◌, List, length, take, get_or, [], ◌∷◌, true, ◌&&◌, nat_lt, arith, refl, ap, ap₂, ◌∙◌}
 use Rattle.std.specs.Int.{IsInRange}
 use Rattle.std.specs.Char.{digit_value, is_ascii_digit}
 use Rattle.std.specs.List.{list_all}
@@ -7,7 +7,7 @@ use Rattle.std.specs.Str.Parse.{AllDigits, IsNumeral, digits_value}
 use Rattle.std.proofs.lemmas.Int.Digits.{digits_value_more}
 use Rattle.std.proofs.lemmas.Str.Parse.{digit_at, digits_value-take-le}
 use Rattle.std.proofs.lemmas.Bool.Decides.{nat_tests}
-use Rattle.std.proofs.lemmas.Bool.{false≢true}
+use Rattle.std.proofs.lemmas.Bool.{and_parts}
 use Rattle.fst_values.specs.Reading.{is_numeral}
 
 -- a byte from '0' to '9' writes the digit of its place
@@ -26,10 +26,6 @@ digit_more-le ds i h l = let e = digit_more ds i h l in let m = digits_value-tak
 
 -- the test of numerals says what it means
 
-and-true : (a b : Bool) → a && b ≡ true → (a ≡ true) × (b ≡ true)
-and-true true b e = (refl, e)
-and-true false b e = absurd (false≢true e)
-
 digit_below : (c : ℕ) → is_ascii_digit c ≡ true → digit_value c < 10
 digit_below c e = grind (arith, nat_tests)
 
@@ -38,14 +34,14 @@ digit_tells c h = grind (arith, nat_tests)
 
 all-digits : (ds : List ℕ) → list_all is_ascii_digit ds ≡ true → AllDigits 10 ds
 all-digits [] e = tt
-all-digits (d ∷ ds) e = let h = and-true _ _ e in (digit_below d h.0, all-digits ds h.1)
+all-digits (d ∷ ds) e = let h = and_parts _ _ e in (digit_below d h.0, all-digits ds h.1)
 
 digits-all : (ds : List ℕ) → AllDigits 10 ds → list_all is_ascii_digit ds ≡ true
 digits-all [] h = refl
 digits-all (d ∷ ds) h = rw (digit_tells d h.0) (digits-all ds h.1)
 
 pub numeral-digits : (ds : List ℕ) → is_numeral ds ≡ true → AllDigits 10 ds
-numeral-digits ds e = all-digits ds (and-true (nat_lt 0 (length ds)) _ e).1
+numeral-digits ds e = all-digits ds (and_parts (nat_lt 0 (length ds)) _ e).1
 
 positive : (n : ℕ) → 0 < n → nat_lt 0 n ≡ true
 positive n h = grind (arith, nat_tests)
@@ -54,7 +50,7 @@ is_positive : (n : ℕ) → nat_lt 0 n ≡ true → 0 < n
 is_positive n e = grind (arith, nat_tests)
 
 pub numeral-is : (ds : List ℕ) → is_numeral ds ≡ true → IsNumeral 10 ds
-numeral-is ds e = (is_positive _ (and-true (nat_lt 0 (length ds)) (list_all is_ascii_digit ds) e).0, numeral-digits ds e)
+numeral-is ds e = (is_positive _ (and_parts (nat_lt 0 (length ds)) (list_all is_ascii_digit ds) e).0, numeral-digits ds e)
 
 pub is-numeral : (ds : List ℕ) → IsNumeral 10 ds → is_numeral ds ≡ true
 is-numeral ds h = ap₂ ◌&&◌ (positive _ h.0) (digits-all ds h.1)

@@ -1,5 +1,6 @@
 -- The printed text of a value is a text of it.
-use Rattle.std.proofs.Common.{◌≡◌, ℕ, suc, ◌<◌, ◌^◌, Bool, true, false, ◌||◌, ◌&&◌, List, [], ◌∷◌, ◌++◌, length, drop, ℤ, pos, negsuc, codes, append_assoc, refl, sym, ap, subst, ◌∙◌, inl, inr, cond, arith}
+use Rattle.std.proofs.Common.{◌≡◌, ℕ, suc, ◌<◌, ◌^◌, true, false, List, [], ◌∷◌, ◌++◌, length, drop, ℤ, pos, negsuc, codes, append_assoc, refl, sym, ap, subst, ◌∙◌, inl, inr, cond, arith}
+use Rattle.std.proofs.lemmas.Bool.{and_parts, or_parts}
 use Rattle.std.proofs.lemmas.Bool.Decides.{nat_tests}
 use Rattle.std.proofs.lemmas.Fmt.{decimal_is_IsNumeral_wide}
 use Rattle.std.proofs.lemmas.Int.{ints}
@@ -17,14 +18,10 @@ use Rattle.fst_values.specs.Texts.{Text, More, Integer, IsText, text_of, text_of
 
 -- ---- words and numerals before a byte that is no letter and no digit
 
-both_true : (a b : Bool) → a && b ≡ true → (a ≡ true) × (b ≡ true)
-both_true true b e = (refl, e)
-both_true false b e = cc
-
 word-front : (ds to : List ℕ) → list_all is_ascii_alphanumeric ds ≡ true → word to ≡ [] → word (ds ++ to) ≡ ds
 word-front [] to h e = e
 word-front (d ∷ ds) to h e =
-    let k = both_true (is_ascii_alphanumeric d) (list_all is_ascii_alphanumeric ds) h in
+    let k = and_parts (is_ascii_alphanumeric d) (list_all is_ascii_alphanumeric ds) h in
     take_while-cons is_ascii_alphanumeric d (ds ++ to)
     ∙ ap (λ t. cond t (d ∷ word (ds ++ to)) []) k.0 ∙ ap (λ l. d ∷ l) (word-front ds to k.1 e)
 
@@ -95,10 +92,6 @@ integer_printed (negsuc n) to h e =
 
 -- ---- the printed text, before a byte that is no letter and no digit
 
-or-false : (a b : Bool) → a || b ≡ false → (a ≡ false) × (b ≡ false)
-or-false true b e = cc
-or-false false b e = (refl, e)
-
 -- a word, a space and a part
 part_printed : (S : Srt) (P : List ℕ → List ℕ → Type 0) (name : List ℕ) (v : Val) (to : List ℕ)
     → ((from k rest : List ℕ) → Word name from k → Text S v k rest → P from rest)
@@ -117,8 +110,8 @@ mutual
   printed s_bool (v_bool false) to a b h r e = word_printed (codes "false") to refl e
   printed s_int (v_int n) to a b h r e = integer_printed n to r e
   printed (s_pair S T) (v_pair v w) to a b h r e =
-      let a' = or-false _ _ a in
-      let b' = or-false _ _ b in
+      let a' = or_parts _ _ a in
+      let b' = or_parts _ _ b in
       let n = 41 ∷ to in
       let m = text_of w ++ n in
       let l = 44 ∷ 32 ∷ m in
@@ -156,10 +149,10 @@ mutual
       )
   printed (s_either S T) (v_inl v) to a b h r e =
       part_printed S (λ f t. Text (s_either S T) (v_inl v) f t) (codes "inl") v to (λ f k t w p. (k, (w, p))) refl r
-      (printed S v to (or-false _ _ a).0 (or-false _ _ b).0 h r e)
+      (printed S v to (or_parts _ _ a).0 (or_parts _ _ b).0 h r e)
   printed (s_either S T) (v_inr v) to a b h r e =
       part_printed T (λ f t. Text (s_either S T) (v_inr v) f t) (codes "inr") v to (λ f k t w p. (k, (w, p))) refl r
-      (printed T v to (or-false _ _ a).1 (or-false _ _ b).1 h r e)
+      (printed T v to (or_parts _ _ a).1 (or_parts _ _ b).1 h r e)
   printed S v to a b h r e = absurd h
 
   more_printed : (S : Srt) (v : Val) (to : List ℕ) → holds_a S ≡ false → holds_b S ≡ false → Has (s_list S) v → InRange v → word to ≡ []

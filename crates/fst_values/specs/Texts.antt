@@ -74,6 +74,7 @@ abbrev mutual
   text_of (v_inl a) = codes "inl " ++ text_of a
   text_of (v_inr a) = codes "inr " ++ text_of a
 
+  -- what is printed of a list behind an item
   pub text_of_more : Val → List ℕ
   text_of_more (v_cons a b) = codes "; " ++ text_of a ++ text_of_more b
   text_of_more _ = codes "]"

@@ -6,7 +6,7 @@ ghost use Rattle.fst_values.specs.Texts.{text_of};
 
 use fst_base::{OutOfMemory, Seq, Value};
 
-/// Appends the printed text of the value.
+/// Appends the printed text of the value. On want of memory the list is as before.
 pub fn print_value(value: &Value, out: &mut Seq<u8>) -> Result<(), OutOfMemory>
     ensures ok { OnOk result (out.new ≡ out.old ++ text_of (plain_value value.now)) }
     ensures err { OnErr result (out.new ≡ out.old) }

@@ -10,7 +10,10 @@ use crate::values::value;
 use fst_base::{Sort, Value};
 use std::alloc::Global;
 
-/// The value of the sort that the bytes are a text of. No text has a sort that holds a variable.
+/// The value whose texts at the sort hold the bytes. A sort that holds a variable has no texts.
+///
+/// `NumberTooWide` where a number of that value is past 128 bits, `NotAValue` where there is no
+/// such value.
 pub fn read_value(alloc: Global, bytes: &[u8], sort: &Sort) -> Result<Value, ValueFault>
     ensures value { IfOk result (λ v. IsText (plain_sort sort.now) (plain_value v) bytes.now) }
     ensures only { IfOk result (λ v.
