@@ -4,7 +4,7 @@ use Rattle.fst_grammar.specs.Grammar.{Rule, Code, El, token, mark, empty, seq, a
 use Rattle.fst_grammar.proofs.Sound as G
 use Rattle.fst_reader.specs.declared.terminal.Terminal.{Terminal}
 use Rattle.fst_reader.specs.Tokens.{alphabet}
-use Rattle.fst_reader.specs.Productions.{N, T, rule, program, decl, effect, base, two_names, three_names, lift, fun, head, needs, gives, measures, depth, measures_more, effname, params, param, refinement, sort, sort_more, sat, body, block, binding, annotation, part, after_name, rest, arms, arms_more, arm, dm, dm_block, dm_binding, dmpart, dm_after_name, dm_arms, dm_arms_more, dm_arm, pattern, term, implies_more, disj, disj_more, conj, conj_more, cmp, cmp_more, con, con_more, sum, sum_more, prod, prod_more, un, other, negated, app, solid, prefix, named, plain, inner, inner_more, args, args_more, items, items_more, comparison, sum_operator, prod_operator, prefix_operator, name, binder, number, small}
+use Rattle.fst_reader.specs.Productions.{N, T, rule, program, decl, effect, base, two_names, three_names, lift, fun, head, needs, gives, measures, depth, measures_more, effname, params, param, refinement, sort, sort_more, sat, body, block, binding, annotation, part, after_name, rest, arms, arms_more, arm, dm, dm_block, dm_binding, dmpart, dm_after_name, dm_arms, dm_arms_more, dm_arm, pattern, term, implies_more, disj, disj_more, conj, conj_more, cmp, cmp_more, con, con_more, sum, sum_more, prod, prod_more, un, other, negated, app, solid, prefix, named, application, plain, atom, inner, enclosed, inner_more, args, args_more, items, items_more, comparison, sum_operator, prod_operator, prefix_operator, name, binder, number, small}
 use Rattle.fst_reader.specs.Tables.{firsts, nullable}
 use Rattle.fst_reader.proofs.Terminals.{kinds}
 
@@ -124,13 +124,22 @@ of_head = called (made (skip (both of_name (both of_params (skip (both of_effnam
 of_pattern : Has pattern
 of_pattern = called (left (made one))
 
+of_atom : (f : Bool) → Has (atom f)
+of_atom f = called (left (made one))
+
 of_plain : (f : Bool) → Has (plain f)
-of_plain false = called (left (made one))
+of_plain false = called (made (of_atom false))
 of_plain true = called (left (made one))
+
+of_application : (f : Bool) → Has (application f)
+of_application f = called (made (right (made none)))
+
+of_enclosed : (f : Bool) → Has (enclosed f)
+of_enclosed f = called (left (made one))
 
 of_named : (f : Bool) → Has (named f)
 of_named false = called (made of_name)
-of_named true = called (made (both of_name (right (made none))))
+of_named true = called (made (both of_name (of_application true)))
 
 of_solid : (f : Bool) → Has (solid f)
 of_solid f = called (left (made (of_named f)))
@@ -150,26 +159,26 @@ of_negated f = called (left (made of_number))
 of_other : (f : Bool) → Has (other f)
 of_other f = called (left (made (both one (of_negated f))))
 
-of_implies_more : (f : Bool) → Has (implies_more f)
-of_implies_more f = called (right (made none))
-
 of_disj_more : (f : Bool) → Has (disj_more f)
 of_disj_more f = called (right (made none))
 
 of_conj_more : (f : Bool) → Has (conj_more f)
 of_conj_more f = called (right (made none))
 
-of_cmp_more : (f : Bool) → Has (cmp_more f)
-of_cmp_more f = called (right (made none))
-
-of_con_more : (f : Bool) → Has (con_more f)
-of_con_more f = called (right (made none))
-
 of_sum_more : (f : Bool) → Has (sum_more f)
 of_sum_more f = called (right (made none))
 
 of_prod_more : (f : Bool) → Has (prod_more f)
 of_prod_more f = called (right (made none))
+
+of_implies_more : (f : Bool) → Has (implies_more f)
+of_implies_more f = called (made (right (made none)))
+
+of_cmp_more : (f : Bool) → Has (cmp_more f)
+of_cmp_more f = called (made (right (made none)))
+
+of_con_more : (f : Bool) → Has (con_more f)
+of_con_more f = called (made (right (made none)))
 
 of_prod : (f : Bool) → Has (prod f)
 of_prod f = called (made (both (of_un f) (of_prod_more f)))
@@ -193,8 +202,8 @@ of_term : (f : Bool) → Has (term f)
 of_term f = called (made (both (of_disj f) (of_implies_more f)))
 
 of_inner : (f : Bool) → Has (inner f)
-of_inner false = called (left (made one))
-of_inner true = called (right (left (made one)))
+of_inner false = called (made (of_enclosed false))
+of_inner true = called (right (made (of_enclosed true)))
 
 of_inner_more : (f : Bool) → Has (inner_more f)
 of_inner_more f = called (left (made one))
@@ -339,8 +348,11 @@ sample (app f) = of_app f
 sample (solid f) = of_solid f
 sample (prefix f) = of_prefix f
 sample (named f) = of_named f
+sample (application f) = of_application f
 sample (plain f) = of_plain f
+sample (atom f) = of_atom f
 sample (inner f) = of_inner f
+sample (enclosed f) = of_enclosed f
 sample (inner_more f) = of_inner_more f
 sample (args f) = of_args f
 sample (args_more f) = of_args_more f

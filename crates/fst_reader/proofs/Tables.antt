@@ -1,6 +1,6 @@
 -- The tables are right for the productions.
 use Rattle.std.proofs.Common.{◌≡◌, ◌<◌, ℕ, zero, suc, true, false, refl, arith}
-use Rattle.fst_reader.specs.Productions.{N, T, rule, program, decl, effect, base, two_names, three_names, lift, fun, head, needs, gives, measures, depth, measures_more, effname, params, param, refinement, sort, sort_more, sat, body, block, binding, annotation, part, after_name, rest, arms, arms_more, arm, dm, dm_block, dm_binding, dmpart, dm_after_name, dm_arms, dm_arms_more, dm_arm, pattern, term, implies_more, disj, disj_more, conj, conj_more, cmp, cmp_more, con, con_more, sum, sum_more, prod, prod_more, un, other, negated, app, solid, prefix, named, plain, inner, inner_more, args, args_more, items, items_more, comparison, sum_operator, prod_operator, prefix_operator, name, binder, number, small}
+use Rattle.fst_reader.specs.Productions.{N, T, rule, program, decl, effect, base, two_names, three_names, lift, fun, head, needs, gives, measures, depth, measures_more, effname, params, param, refinement, sort, sort_more, sat, body, block, binding, annotation, part, after_name, rest, arms, arms_more, arm, dm, dm_block, dm_binding, dmpart, dm_after_name, dm_arms, dm_arms_more, dm_arm, pattern, term, implies_more, disj, disj_more, conj, conj_more, cmp, cmp_more, con, con_more, sum, sum_more, prod, prod_more, un, other, negated, app, solid, prefix, named, application, plain, atom, inner, enclosed, inner_more, args, args_more, items, items_more, comparison, sum_operator, prod_operator, prefix_operator, name, binder, number, small}
 use Rattle.fst_reader.specs.Tables.{firsts, nullable, follow, rank, top}
 use Rattle.fst_reader.specs.Tokens.{alphabet}
 use Rattle.fst_grammar.specs.Alphabet.{within}
@@ -71,10 +71,13 @@ good (solid f) = refl
 good (prefix f) = refl
 good (named true) = refl
 good (named false) = refl
+good (application f) = refl
 good (plain true) = refl
 good (plain false) = refl
+good (atom f) = refl
 good (inner true) = refl
 good (inner false) = refl
+good (enclosed f) = refl
 good (inner_more f) = refl
 good (args f) = refl
 good (args_more f) = refl
@@ -153,10 +156,13 @@ full (solid f) e = refl
 full (prefix f) e = refl
 full (named true) e = refl
 full (named false) e = refl
+full (application f) e = cc
 full (plain true) e = refl
 full (plain false) e = refl
+full (atom f) e = refl
 full (inner true) e = refl
 full (inner false) e = refl
+full (enclosed f) e = refl
 full (inner_more f) e = refl
 full (args f) e = refl
 full (args_more f) e = cc
@@ -235,10 +241,13 @@ ranked (solid f) = refl
 ranked (prefix f) = refl
 ranked (named true) = refl
 ranked (named false) = refl
+ranked (application f) = refl
 ranked (plain true) = refl
 ranked (plain false) = refl
+ranked (atom f) = refl
 ranked (inner true) = refl
 ranked (inner false) = refl
+ranked (enclosed f) = refl
 ranked (inner_more f) = refl
 ranked (args f) = refl
 ranked (args_more f) = refl
@@ -317,10 +326,13 @@ ranks (solid f) = omega arith
 ranks (prefix f) = omega arith
 ranks (named true) = omega arith
 ranks (named false) = omega arith
+ranks (application f) = omega arith
 ranks (plain true) = omega arith
 ranks (plain false) = omega arith
+ranks (atom f) = omega arith
 ranks (inner true) = omega arith
 ranks (inner false) = omega arith
+ranks (enclosed f) = omega arith
 ranks (inner_more f) = omega arith
 ranks (args f) = omega arith
 ranks (args_more f) = omega arith
@@ -399,10 +411,13 @@ follows (solid f) = refl
 follows (prefix f) = refl
 follows (named true) = refl
 follows (named false) = refl
+follows (application f) = refl
 follows (plain true) = refl
 follows (plain false) = refl
+follows (atom f) = refl
 follows (inner true) = refl
 follows (inner false) = refl
+follows (enclosed f) = refl
 follows (inner_more f) = refl
 follows (args f) = refl
 follows (args_more f) = refl

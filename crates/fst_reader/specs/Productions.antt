@@ -54,7 +54,7 @@ pub data N : Type 0 where
   dm_arms dm_arms_more dm_arm : N
   pattern : N
   term implies_more disj disj_more conj conj_more cmp cmp_more con con_more sum sum_more prod prod_more : Bool → N
-  un other negated app solid prefix named plain inner inner_more args args_more items items_more : Bool → N
+  un other negated app solid prefix named application plain atom inner enclosed inner_more args args_more items items_more : Bool → N
   comparison sum_operator prod_operator prefix_operator : N
   name binder number small : N
 
@@ -100,16 +100,18 @@ T dm_arms = List (ArmTree (DmTree Word))
 T dm_arms_more = List (ArmTree (DmTree Word))
 T dm_arm = ArmTree (DmTree Word)
 T pattern = Pattern
-T (implies_more f) = Tree → Tree
+T (implies_more f) = Option (Pos × Tree)
 T (disj_more f) = Tree → Tree
 T (conj_more f) = Tree → Tree
-T (cmp_more f) = Tree → Tree
-T (con_more f) = Tree → Tree
+T (cmp_more f) = Option (Comparison × Tree)
+T (con_more f) = Option (Pos × Tree)
 T (sum_more f) = Tree → Tree
 T (prod_more f) = Tree → Tree
 T (negated f) = Pos → Tree
 T (inner f) = Pos → Tree
+T (enclosed f) = Pos → Tree
 T (inner_more f) = Tree → Pos → Tree
+T (application f) = Option (List Tree)
 T (args f) = List Tree
 T (args_more f) = List Tree
 T (items f) = List Tree
@@ -136,6 +138,7 @@ T (solid f) = Tree
 T (prefix f) = Tree
 T (named f) = Tree
 T (plain f) = Tree
+T (atom f) = Tree
 
 abbrev pub R : Code alphabet N T → Type 0
 R = Rule alphabet N T
@@ -177,27 +180,10 @@ product s (Some q) = S.Pair s q
 abbrev pub term_part : Tree → PartTree Word
 term_part a = record { at = a.at; node = P.Term a }
 
-abbrev pub in_call : Word → Option (List Tree) → Tree
-in_call w None = t.ident w
-in_call w (Some arguments) = t.applied w arguments
-
 -- the one or two terms that a definition's text runs a computation on
 abbrev pub one_or_two : Tree → Option Tree → List Tree
 one_or_two a None = a ∷ []
 one_or_two a (Some b) = a ∷ b ∷ []
-
--- 'true' | 'false' | 'none' | '(' .. | '[' .. ; this and the rows of `inner` that terms and formulas share
-abbrev pub atom_rows : (f : Bool) → R (tree (plain f))
-atom_rows f = (λ p. t.truth true p) ⇐ mark k.True
-    ∣ (λ p. t.truth false p) ⇐ mark k.False
-    ∣ (λ p. t.nullary op.Nothing p) ⇐ mark k.None
-    ∣ (λ p. p.1 p.0) ⇐ mark k.LeftParen ⋅ call (inner f)
-    ∣ (λ p. t.listed p.0 p.1) ⇐ mark k.LeftBracket ⋅ call (items f)
-
-abbrev pub inner_rows : (f : Bool) → R (tree (inner f))
-inner_rows f = (λ _ p. t.unit p) ⇐ mark k.RightParen
-    ∣ (λ p _. t.choice p.0 p.1.0 p.1.1.0 p.1.1.1) ⇐ mark k.If ⋅ call (term f) ⋅ k.Then ▸ call (term f) ⋅ k.Else ▸ call (term f) ◂ k.RightParen
-    ∣ (λ p at. p.1 p.0 at) ⇐ call (term f) ⋅ call (inner_more f)
 
 abbrev pub rule : (n : N) → R (tree n)
 rule program = (λ p. p.0 ∷ p.1) ⇐ call decl ⋅ call program
@@ -271,7 +257,7 @@ rule part = (λ p. record { at = p.0; node = P.Block p.1 }) ⇐ mark k.LeftBrace
 rule after_name = (λ arguments w. record { at = w.at; node = P.Call w arguments }) ⇐ k.LeftParen ▸ call (args false)
     ∣ (λ more w. term_part (more (t.ident w))) ⇐ call rest
 -- what may follow the first operand of a term
-rule rest = (λ p a. p.1.1.1.1.1.1 (p.1.1.1.1.1.0 (p.1.1.1.1.0 (p.1.1.1.0 (p.1.1.0 (p.1.0 (p.0 a)))))))
+rule rest = (λ p a. t.implied_by (p.1.1.1.1.1.0 (p.1.1.1.1.0 (t.compared_by (t.cons_by (p.1.0 (p.0 a)) p.1.1.0) p.1.1.1.0))) p.1.1.1.1.1.1)
     ⇐ call (prod_more false) ⋅ call (sum_more false) ⋅ call (con_more false) ⋅ call (cmp_more false) ⋅ call (conj_more false) ⋅ call (disj_more false) ⋅ call (implies_more false)
 
 rule arms = (λ p. p.0 ∷ p.1) ⇐ call arm ⋅ call arms_more
@@ -308,27 +294,24 @@ rule pattern = (λ p. record { at = p; con = C.True; names = [] }) ⇐ mark k.Tr
     ∣ (λ p. record { at = p.0; con = C.Pair; names = p.1.0 ∷ p.1.1 ∷ [] }) ⇐ mark k.LeftParen ⋅ call binder ⋅ k.Comma ▸ call binder ◂ k.RightParen
 
 -- Terms at false, formulas at true. Chains of || && + - * / % nest to the left, ==> and :: to the right.
-rule (term f) = (λ p. p.1 p.0) ⇐ call (disj f) ⋅ call (implies_more f)
-rule (implies_more f) = (λ p a. t.implied p.0 a p.1) ⇐ mark k.Implies ⋅ call (term f)
-    ∣ (λ _ a. a) ⇐ empty
+rule (term f) = (λ p. t.implied_by p.0 p.1) ⇐ call (disj f) ⋅ call (implies_more f)
+rule (implies_more f) = (λ a. a) ⇐ optional (mark k.Implies ⋅ call (term f))
 rule (disj f) = (λ p. p.1 p.0) ⇐ call (conj f) ⋅ call (disj_more f)
 rule (disj_more f) = (λ p a. p.1.1 (t.either p.0 a p.1.0)) ⇐ mark k.BarBar ⋅ call (conj f) ⋅ call (disj_more f)
     ∣ (λ _ a. a) ⇐ empty
 rule (conj f) = (λ p. p.1 p.0) ⇐ call (cmp f) ⋅ call (conj_more f)
 rule (conj_more f) = (λ p a. p.1.1 (t.both p.0 a p.1.0)) ⇐ mark k.AmpAmp ⋅ call (cmp f) ⋅ call (conj_more f)
     ∣ (λ _ a. a) ⇐ empty
-rule (cmp f) = (λ p. p.1 p.0) ⇐ call (con f) ⋅ call (cmp_more f)
-rule (cmp_more f) = (λ p a. t.compared p.0 a p.1) ⇐ call comparison ⋅ call (con f)
-    ∣ (λ _ a. a) ⇐ empty
+rule (cmp f) = (λ p. t.compared_by p.0 p.1) ⇐ call (con f) ⋅ call (cmp_more f)
+rule (cmp_more f) = (λ a. a) ⇐ optional (call comparison ⋅ call (con f))
 rule comparison = (λ p. record { relation = L.Equal; at = p }) ⇐ mark k.Equal
     ∣ (λ p. record { relation = L.NotEqual; at = p }) ⇐ mark k.NotEqual
     ∣ (λ p. record { relation = L.LessEqual; at = p }) ⇐ mark k.LessEqual
     ∣ (λ p. record { relation = L.Less; at = p }) ⇐ mark k.Less
     ∣ (λ p. record { relation = L.GreaterEqual; at = p }) ⇐ mark k.GreaterEqual
     ∣ (λ p. record { relation = L.Greater; at = p }) ⇐ mark k.Greater
-rule (con f) = (λ p. p.1 p.0) ⇐ call (sum f) ⋅ call (con_more f)
-rule (con_more f) = (λ p a. t.binary op.Cons p.0 a p.1) ⇐ mark k.ColonColon ⋅ call (con f)
-    ∣ (λ _ a. a) ⇐ empty
+rule (con f) = (λ p. t.cons_by p.0 p.1) ⇐ call (sum f) ⋅ call (con_more f)
+rule (con_more f) = (λ a. a) ⇐ optional (mark k.ColonColon ⋅ call (con f))
 rule (sum f) = (λ p. p.1 p.0) ⇐ call (prod f) ⋅ call (sum_more f)
 rule (sum_more f) = (λ p a. p.1.1 (t.operated p.0 a p.1.0)) ⇐ call sum_operator ⋅ call (prod f) ⋅ call (sum_more f)
     ∣ (λ _ a. a) ⇐ empty
@@ -369,16 +352,25 @@ rule prefix_operator = (λ p. record { op = op.Fst; at = p }) ⇐ mark k.Fst
     ∣ (λ p. record { op = op.Len; at = p }) ⇐ mark k.Len
 -- NAME, and in a formula NAME '(' [form {',' form}] ')'
 rule (named false) = t.ident ⇐ call name
-rule (named true) = (λ p. in_call p.0 p.1) ⇐ call name ⋅ optional (k.LeftParen ▸ call (args true))
+rule (named true) = (λ p. t.applied_to p.0 p.1) ⇐ call name ⋅ call (application true)
+rule (application f) = (λ a. a) ⇐ optional (k.LeftParen ▸ call (args f))
 -- the words `result` and `input` are used as names in formulas
-rule (plain false) = atom_rows false
+rule (plain false) = (λ a. a) ⇐ call (atom false)
 rule (plain true) = (λ p. t.ident (t.the_word t.result_text p)) ⇐ mark k.Result
     ∣ (λ p. t.ident (t.the_word t.input_text p)) ⇐ mark k.Input
-    ∣ atom_rows true
+    ∣ (λ a. a) ⇐ call (atom true)
+rule (atom f) = (λ p. t.truth true p) ⇐ mark k.True
+    ∣ (λ p. t.truth false p) ⇐ mark k.False
+    ∣ (λ p. t.nullary op.Nothing p) ⇐ mark k.None
+    ∣ (λ p. p.1 p.0) ⇐ mark k.LeftParen ⋅ call (inner f)
+    ∣ (λ p. t.listed p.0 p.1) ⇐ mark k.LeftBracket ⋅ call (items f)
 -- what follows '(': ')' | 'if' .. ')' | term ')' | term ',' term ')', and in a formula 'let' NAME '=' form 'in' form ')'
-rule (inner false) = inner_rows false
+rule (inner false) = (λ a. a) ⇐ call (enclosed false)
 rule (inner true) = (λ p _. t.let_in p.0 p.1.0 p.1.1.0 p.1.1.1) ⇐ mark k.Let ⋅ call binder ⋅ k.Equal ▸ call (term true) ⋅ k.In ▸ call (term true) ◂ k.RightParen
-    ∣ inner_rows true
+    ∣ (λ a. a) ⇐ call (enclosed true)
+rule (enclosed f) = (λ _ p. t.unit p) ⇐ mark k.RightParen
+    ∣ (λ p _. t.choice p.0 p.1.0 p.1.1.0 p.1.1.1) ⇐ mark k.If ⋅ call (term f) ⋅ k.Then ▸ call (term f) ⋅ k.Else ▸ call (term f) ◂ k.RightParen
+    ∣ (λ p at. p.1 p.0 at) ⇐ call (term f) ⋅ call (inner_more f)
 rule (inner_more f) = (λ _ a _. a) ⇐ mark k.RightParen
     ∣ (λ b a p. t.binary op.Pair p a b) ⇐ k.Comma ▸ call (term f) ◂ k.RightParen
 -- what follows the '(' of a call

@@ -3,7 +3,7 @@
 use Rattle.std.specs.Prelude.{ℕ, Bool, true, false, List, [], ◌∷◌, ◌++◌}
 use Rattle.fst_reader.specs.declared.terminal.Terminal.{Terminal}
 use Rattle.fst_reader.specs.declared.terminal.Terminal.TheVariants as k
-use Rattle.fst_reader.specs.Productions.{N, program, decl, effect, base, two_names, three_names, lift, fun, head, needs, gives, measures, depth, measures_more, effname, params, param, refinement, sort, sort_more, sat, body, block, binding, annotation, part, after_name, rest, arms, arms_more, arm, dm, dm_block, dm_binding, dmpart, dm_after_name, dm_arms, dm_arms_more, dm_arm, pattern, term, implies_more, disj, disj_more, conj, conj_more, cmp, cmp_more, con, con_more, sum, sum_more, prod, prod_more, un, other, negated, app, solid, prefix, named, plain, inner, inner_more, args, args_more, items, items_more, comparison, sum_operator, prod_operator, prefix_operator, name, binder, number, small}
+use Rattle.fst_reader.specs.Productions.{N, program, decl, effect, base, two_names, three_names, lift, fun, head, needs, gives, measures, depth, measures_more, effname, params, param, refinement, sort, sort_more, sat, body, block, binding, annotation, part, after_name, rest, arms, arms_more, arm, dm, dm_block, dm_binding, dmpart, dm_after_name, dm_arms, dm_arms_more, dm_arm, pattern, term, implies_more, disj, disj_more, conj, conj_more, cmp, cmp_more, con, con_more, sum, sum_more, prod, prod_more, un, other, negated, app, solid, prefix, named, application, plain, atom, inner, enclosed, inner_more, args, args_more, items, items_more, comparison, sum_operator, prod_operator, prefix_operator, name, binder, number, small}
 
 -- the tokens with which terms and their parts begin
 abbrev pub prefix_first : List Terminal
@@ -101,8 +101,11 @@ firsts (app f) = k.Minus ∷ k.Small ∷ k.Number ∷ solid_first
 firsts (solid f) = solid_first
 firsts (prefix f) = prefix_first
 firsts (named f) = k.Name ∷ []
+firsts (application f) = k.LeftParen ∷ []
 firsts (plain f) = plain_first
+firsts (atom f) = k.True ∷ k.False ∷ k.None ∷ k.LeftParen ∷ k.LeftBracket ∷ []
 firsts (inner f) = k.RightParen ∷ k.If ∷ k.Let ∷ term_first
+firsts (enclosed f) = k.RightParen ∷ k.If ∷ term_first
 firsts (inner_more f) = k.RightParen ∷ k.Comma ∷ []
 firsts (args f) = k.RightParen ∷ term_first
 firsts (args_more f) = k.Comma ∷ []
@@ -140,6 +143,7 @@ nullable (cmp_more f) = true
 nullable (con_more f) = true
 nullable (sum_more f) = true
 nullable (prod_more f) = true
+nullable (application f) = true
 nullable (args_more f) = true
 nullable (items_more f) = true
 nullable _ = false
@@ -240,8 +244,11 @@ follow (app f) = operand_follow
 follow (solid f) = operand_follow
 follow (prefix f) = operand_follow
 follow (named f) = operand_follow
+follow (application f) = operand_follow
 follow (plain f) = operand_follow
+follow (atom f) = operand_follow
 follow (inner f) = operand_follow
+follow (enclosed f) = operand_follow
 follow (inner_more f) = operand_follow
 follow (args f) = operand_follow
 follow (args_more f) = k.RightParen ∷ []
@@ -298,7 +305,9 @@ rank (app f) = 3
 rank (solid f) = 2
 rank (prefix f) = 1
 rank (named f) = 1
-rank (inner f) = 12
+rank (plain f) = 1
+rank (inner f) = 13
+rank (enclosed f) = 12
 rank (args f) = 12
 rank (items f) = 12
 rank _ = 0

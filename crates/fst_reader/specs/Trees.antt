@@ -93,6 +93,24 @@ compared c a b = elim c.relation [
   | r.Greater ↦ binary op.Lt c.at b a
 ]
 
+-- a first operand with what follows it
+abbrev pub implied_by : Tree → Option (Pos × Tree) → Tree
+implied_by a None = a
+implied_by a (Some p) = implied p.0 a p.1
+
+abbrev pub compared_by : Tree → Option (Comparison × Tree) → Tree
+compared_by a None = a
+compared_by a (Some p) = compared p.0 a p.1
+
+abbrev pub cons_by : Tree → Option (Pos × Tree) → Tree
+cons_by a None = a
+cons_by a (Some p) = binary op.Cons p.0 a p.1
+
+-- a name, and a function's name with its arguments
+abbrev pub applied_to : Word → Option (List Tree) → Tree
+applied_to w None = ident w
+applied_to w (Some args) = applied w args
+
 abbrev pub operated : Operator → Tree → Tree → Tree
 operated o a b = binary o.op o.at a b
 

@@ -6,6 +6,7 @@ mod decl;
 mod definition;
 mod form;
 mod lexeme;
+mod make;
 mod operator;
 mod pattern;
 mod reader;
