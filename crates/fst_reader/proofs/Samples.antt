@@ -3,8 +3,9 @@ use Rattle.std.proofs.Common.{ℕ, zero, suc, Bool, true, false}
 use Rattle.fst_grammar.specs.Grammar.{Rule, Code, El, token, mark, empty, seq, alt, act, call}
 use Rattle.fst_grammar.proofs.Sound as G
 use Rattle.fst_reader.specs.declared.terminal.Terminal.{Terminal}
+use Rattle.fst_reader.specs.declared.operator.Separator.{Separator}
 use Rattle.fst_reader.specs.Tokens.{alphabet}
-use Rattle.fst_reader.specs.Productions.{N, T, rule, program, decl, effect, base, two_names, three_names, lift, fun, head, needs, gives, measures, depth, measures_more, effname, params, param, refinement, sort, sort_more, sat, body, block, binding, annotation, part, after_name, rest, arms, arms_more, arm, dm, dm_block, dm_binding, dmpart, dm_after_name, dm_arms, dm_arms_more, dm_arm, pattern, term, implies_more, disj, disj_more, conj, conj_more, cmp, cmp_more, con, con_more, sum, sum_more, prod, prod_more, un, other, negated, app, solid, prefix, named, application, plain, atom, inner, enclosed, inner_more, args, args_more, items, items_more, comparison, sum_operator, prod_operator, prefix_operator, name, binder, number, small}
+use Rattle.fst_reader.specs.Productions.{N, T, rule, program, decl, effect, base, two_names, three_names, lift, fun, head, needs, gives, measures, depth, measures_more, terms_more, effname, params, param, refinement, sort, sort_more, sat, body, block, binding, annotation, part, after_name, rest, arms, arms_more, arm, dm, dm_block, dm_binding, dmpart, dm_after_name, dm_arms, dm_arms_more, dm_arm, pattern, term, implies_more, disj, disj_more, conj, conj_more, cmp, cmp_more, con, con_more, sum, sum_more, prod, prod_more, un, other, negated, app, solid, prefix, named, application, plain, atom, inner, enclosed, choice, inner_more, args, items, let_in, comparison, sum_operator, prod_operator, prefix_operator, name, binder, number, small}
 use Rattle.fst_reader.specs.Tables.{firsts, nullable}
 use Rattle.fst_reader.proofs.Terminals.{kinds}
 
@@ -109,6 +110,9 @@ of_measures_more : (n : ℕ) → Has (measures_more n)
 of_measures_more zero = called (made none)
 of_measures_more (suc n) = called (right (made none))
 
+of_terms_more : (s : Separator) (f : Bool) → Has (terms_more s f)
+of_terms_more s f = called (right (made none))
+
 of_depth : Has depth
 of_depth = called (right (made none))
 
@@ -201,6 +205,12 @@ of_disj f = called (made (both (of_conj f) (of_disj_more f)))
 of_term : (f : Bool) → Has (term f)
 of_term f = called (made (both (of_disj f) (of_implies_more f)))
 
+of_choice : (f : Bool) → Has (choice f)
+of_choice f = called (made (both one (both (of_term f) (skip (both (of_term f) (skip (close (of_term f))))))))
+
+of_let_in : Has let_in
+of_let_in = called (made (both one (both of_binder (skip (both (of_term true) (skip (close (of_term true))))))))
+
 of_inner : (f : Bool) → Has (inner f)
 of_inner false = called (made (of_enclosed false))
 of_inner true = called (right (made (of_enclosed true)))
@@ -211,14 +221,8 @@ of_inner_more f = called (left (made one))
 of_args : (f : Bool) → Has (args f)
 of_args f = called (left (made one))
 
-of_args_more : (f : Bool) → Has (args_more f)
-of_args_more f = called (right (made none))
-
 of_items : (f : Bool) → Has (items f)
 of_items f = called (left (made one))
-
-of_items_more : (f : Bool) → Has (items_more f)
-of_items_more f = called (right (made none))
 
 of_rest : Has rest
 of_rest = called (made (both (of_prod_more false) (both (of_sum_more false) (both (of_con_more false) (both (of_cmp_more false) (both (of_conj_more false) (both (of_disj_more false) (of_implies_more false))))))))
@@ -300,6 +304,7 @@ sample needs = of_needs
 sample gives = of_gives
 sample measures = of_measures
 sample (measures_more n) = of_measures_more n
+sample (terms_more s f) = of_terms_more s f
 sample depth = of_depth
 sample effname = of_effname
 sample params = of_params
@@ -353,11 +358,11 @@ sample (plain f) = of_plain f
 sample (atom f) = of_atom f
 sample (inner f) = of_inner f
 sample (enclosed f) = of_enclosed f
+sample (choice f) = of_choice f
 sample (inner_more f) = of_inner_more f
 sample (args f) = of_args f
-sample (args_more f) = of_args_more f
 sample (items f) = of_items f
-sample (items_more f) = of_items_more f
+sample let_in = of_let_in
 sample comparison = of_comparison
 sample sum_operator = of_sum_operator
 sample prod_operator = of_prod_operator

@@ -1,5 +1,7 @@
 pub mod Tokens
+pub mod Separators
 pub mod Trees
 pub mod Productions
 pub mod Tables
 pub mod Reading
+pub mod Nests

@@ -15,6 +15,9 @@ use Rattle.fst_reader.specs.declared.operator.Operator.{Operator}
 use Rattle.fst_reader.specs.declared.operator.Comparison.{Comparison}
 use Rattle.fst_reader.specs.declared.operator.Relation.TheVariants as L
 use Rattle.fst_reader.specs.declared.operator.Digits.{Digits}
+use Rattle.fst_reader.specs.declared.operator.Separator.{Separator}
+use Rattle.fst_reader.specs.declared.operator.Separator.TheVariants as X
+use Rattle.fst_reader.specs.Separators.{separator}
 use Rattle.fst_reader.specs.declared.pattern.ArmTree.{ArmTree}
 use Rattle.fst_reader.specs.declared.pattern.Pattern.{Pattern}
 use Rattle.fst_reader.specs.declared.pattern.ConWord.TheVariants as C
@@ -54,8 +57,9 @@ pub data N : Type 0 where
   dm_arms dm_arms_more dm_arm : N
   pattern : N
   term implies_more disj disj_more conj conj_more cmp cmp_more con con_more sum sum_more prod prod_more : Bool → N
-  un other negated app solid prefix named application plain atom inner enclosed inner_more args args_more items items_more : Bool → N
-  comparison sum_operator prod_operator prefix_operator : N
+  un other negated app solid prefix named application plain atom inner enclosed choice inner_more args items : Bool → N
+  terms_more : Separator → Bool → N
+  let_in comparison sum_operator prod_operator prefix_operator : N
   name binder number small : N
 
 -- what each gives
@@ -113,9 +117,8 @@ T (enclosed f) = Pos → Tree
 T (inner_more f) = Tree → Pos → Tree
 T (application f) = Option (List Tree)
 T (args f) = List Tree
-T (args_more f) = List Tree
+T (terms_more s f) = List Tree
 T (items f) = List Tree
-T (items_more f) = List Tree
 T comparison = Comparison
 T sum_operator = Operator
 T prod_operator = Operator
@@ -139,6 +142,8 @@ T (prefix f) = Tree
 T (named f) = Tree
 T (plain f) = Tree
 T (atom f) = Tree
+T (choice f) = Tree
+T let_in = Tree
 
 abbrev pub R : Code alphabet N T → Type 0
 R = Rule alphabet N T
@@ -366,22 +371,21 @@ rule (atom f) = (λ p. t.truth true p) ⇐ mark k.True
     ∣ (λ p. t.listed p.0 p.1) ⇐ mark k.LeftBracket ⋅ call (items f)
 -- what follows '(': ')' | 'if' .. ')' | term ')' | term ',' term ')', and in a formula 'let' NAME '=' form 'in' form ')'
 rule (inner false) = (λ a. a) ⇐ call (enclosed false)
-rule (inner true) = (λ p _. t.let_in p.0 p.1.0 p.1.1.0 p.1.1.1) ⇐ mark k.Let ⋅ call binder ⋅ k.Equal ▸ call (term true) ⋅ k.In ▸ call (term true) ◂ k.RightParen
+rule (inner true) = (λ a _. a) ⇐ call let_in
     ∣ (λ a. a) ⇐ call (enclosed true)
 rule (enclosed f) = (λ _ p. t.unit p) ⇐ mark k.RightParen
-    ∣ (λ p _. t.choice p.0 p.1.0 p.1.1.0 p.1.1.1) ⇐ mark k.If ⋅ call (term f) ⋅ k.Then ▸ call (term f) ⋅ k.Else ▸ call (term f) ◂ k.RightParen
+    ∣ (λ a _. a) ⇐ call (choice f)
     ∣ (λ p at. p.1 p.0 at) ⇐ call (term f) ⋅ call (inner_more f)
+rule (choice f) = (λ p. t.choice p.0 p.1.0 p.1.1.0 p.1.1.1) ⇐ mark k.If ⋅ call (term f) ⋅ k.Then ▸ call (term f) ⋅ k.Else ▸ call (term f) ◂ k.RightParen
+rule let_in = (λ p. t.let_in p.0 p.1.0 p.1.1.0 p.1.1.1) ⇐ mark k.Let ⋅ call binder ⋅ k.Equal ▸ call (term true) ⋅ k.In ▸ call (term true) ◂ k.RightParen
 rule (inner_more f) = (λ _ a _. a) ⇐ mark k.RightParen
     ∣ (λ b a p. t.binary op.Pair p a b) ⇐ k.Comma ▸ call (term f) ◂ k.RightParen
--- what follows the '(' of a call
+-- what follows the '(' of a call, and what follows a '['
 rule (args f) = (λ _. []) ⇐ mark k.RightParen
-    ∣ (λ p. p.0 ∷ p.1) ⇐ call (term f) ⋅ call (args_more f) ◂ k.RightParen
-rule (args_more f) = (λ p. p.0 ∷ p.1) ⇐ k.Comma ▸ call (term f) ⋅ call (args_more f)
-    ∣ (λ _. []) ⇐ empty
--- what follows a '['
+    ∣ (λ p. p.0 ∷ p.1) ⇐ call (term f) ⋅ call (terms_more X.Comma f) ◂ k.RightParen
 rule (items f) = (λ _. []) ⇐ mark k.RightBracket
-    ∣ (λ p. p.0 ∷ p.1) ⇐ call (term f) ⋅ call (items_more f) ◂ k.RightBracket
-rule (items_more f) = (λ p. p.0 ∷ p.1) ⇐ k.Semicolon ▸ call (term f) ⋅ call (items_more f)
+    ∣ (λ p. p.0 ∷ p.1) ⇐ call (term f) ⋅ call (terms_more X.Semicolon f) ◂ k.RightBracket
+rule (terms_more s f) = (λ p. p.0 ∷ p.1) ⇐ separator s ▸ call (term f) ⋅ call (terms_more s f)
     ∣ (λ _. []) ⇐ empty
 
 rule name = word ⇐ token k.Name

@@ -1,5 +1,5 @@
 -- Reading by the tables, and what a function that reads ensures.
-use Rattle.std.specs.Prelude.{◌≡◌, List, Result, Ok, Err}
+use Rattle.std.specs.Prelude.{◌≡◌, List, ◌++◌, Result, Ok, Err}
 use Rattle.fst_base.specs.declared.place.Pos.{Pos}
 use Rattle.fst_reader.specs.declared.reader.Stop.{Stop}
 use Rattle.fst_reader.specs.declared.reader.Stop.TheVariants.{Syntax, NoMemory}
@@ -42,6 +42,13 @@ applied a o = o >>= λ more ks. Ok (more a, ks)
 
 abbrev pub placed : Pos → Outcome Token (Pos → Tree) → Outcome Token Tree
 placed at o = o >>= λ more ks. Ok (more at, ks)
+
+abbrev pub closed : Tree → Pos → Outcome Token (Tree → Pos → Tree) → Outcome Token Tree
+closed a at o = o >>= λ more ks. Ok (more a at, ks)
+
+-- a list's front with what is read behind it
+abbrev pub behind : List Tree → Outcome Token (List Tree) → Outcome Token (List Tree)
+behind front o = o >>= λ more ks. Ok (front ++ more, ks)
 
 -- The function gives the outcome, with these tokens left, unless memory fails.
 abbrev pub Reads : {A : Type 0} → Outcome Token A → Result A Stop → List Token → Type 0

@@ -3,7 +3,8 @@
 use Rattle.std.specs.Prelude.{ℕ, Bool, true, false, List, [], ◌∷◌, ◌++◌}
 use Rattle.fst_reader.specs.declared.terminal.Terminal.{Terminal}
 use Rattle.fst_reader.specs.declared.terminal.Terminal.TheVariants as k
-use Rattle.fst_reader.specs.Productions.{N, program, decl, effect, base, two_names, three_names, lift, fun, head, needs, gives, measures, depth, measures_more, effname, params, param, refinement, sort, sort_more, sat, body, block, binding, annotation, part, after_name, rest, arms, arms_more, arm, dm, dm_block, dm_binding, dmpart, dm_after_name, dm_arms, dm_arms_more, dm_arm, pattern, term, implies_more, disj, disj_more, conj, conj_more, cmp, cmp_more, con, con_more, sum, sum_more, prod, prod_more, un, other, negated, app, solid, prefix, named, application, plain, atom, inner, enclosed, inner_more, args, args_more, items, items_more, comparison, sum_operator, prod_operator, prefix_operator, name, binder, number, small}
+use Rattle.fst_reader.specs.declared.operator.Separator.TheVariants as s
+use Rattle.fst_reader.specs.Productions.{N, program, decl, effect, base, two_names, three_names, lift, fun, head, needs, gives, measures, depth, measures_more, terms_more, effname, params, param, refinement, sort, sort_more, sat, body, block, binding, annotation, part, after_name, rest, arms, arms_more, arm, dm, dm_block, dm_binding, dmpart, dm_after_name, dm_arms, dm_arms_more, dm_arm, pattern, term, implies_more, disj, disj_more, conj, conj_more, cmp, cmp_more, con, con_more, sum, sum_more, prod, prod_more, un, other, negated, app, solid, prefix, named, application, plain, atom, inner, enclosed, choice, inner_more, args, items, let_in, comparison, sum_operator, prod_operator, prefix_operator, name, binder, number, small}
 
 -- the tokens with which terms and their parts begin
 abbrev pub prefix_first : List Terminal
@@ -53,6 +54,8 @@ firsts needs = k.Requires ∷ []
 firsts gives = k.Ensures ∷ []
 firsts measures = k.Decreases ∷ []
 firsts (measures_more n) = k.Comma ∷ []
+firsts (terms_more s.Comma f) = k.Comma ∷ []
+firsts (terms_more s.Semicolon f) = k.Semicolon ∷ []
 firsts depth = k.Unfold ∷ []
 firsts effname = k.PureEffect ∷ k.GhostEffect ∷ k.DivEffect ∷ k.Name ∷ []
 firsts params = k.Ghost ∷ k.LeftParen ∷ []
@@ -106,11 +109,11 @@ firsts (plain f) = plain_first
 firsts (atom f) = k.True ∷ k.False ∷ k.None ∷ k.LeftParen ∷ k.LeftBracket ∷ []
 firsts (inner f) = k.RightParen ∷ k.If ∷ k.Let ∷ term_first
 firsts (enclosed f) = k.RightParen ∷ k.If ∷ term_first
+firsts (choice f) = k.If ∷ []
 firsts (inner_more f) = k.RightParen ∷ k.Comma ∷ []
 firsts (args f) = k.RightParen ∷ term_first
-firsts (args_more f) = k.Comma ∷ []
 firsts (items f) = k.RightBracket ∷ term_first
-firsts (items_more f) = k.Semicolon ∷ []
+firsts let_in = k.Let ∷ []
 firsts comparison = compare_first
 firsts sum_operator = k.Plus ∷ k.Minus ∷ []
 firsts prod_operator = k.Star ∷ k.Slash ∷ k.Percent ∷ []
@@ -126,6 +129,7 @@ nullable needs = true
 nullable gives = true
 nullable measures = true
 nullable (measures_more n) = true
+nullable (terms_more s f) = true
 nullable depth = true
 nullable params = true
 nullable refinement = true
@@ -144,8 +148,6 @@ nullable (con_more f) = true
 nullable (sum_more f) = true
 nullable (prod_more f) = true
 nullable (application f) = true
-nullable (args_more f) = true
-nullable (items_more f) = true
 nullable _ = false
 
 -- what may follow declarations, bodies, sorts, terms and the operands of each operator
@@ -196,6 +198,8 @@ follow needs = k.Ensures ∷ k.Decreases ∷ k.Unfold ∷ k.LeftBrace ∷ []
 follow gives = k.Decreases ∷ k.Unfold ∷ k.LeftBrace ∷ []
 follow measures = k.Unfold ∷ k.LeftBrace ∷ []
 follow (measures_more n) = k.Unfold ∷ k.LeftBrace ∷ []
+follow (terms_more s.Comma f) = k.RightParen ∷ []
+follow (terms_more s.Semicolon f) = k.RightBracket ∷ []
 follow depth = k.LeftBrace ∷ []
 follow effname = sat_first
 follow params = k.Colon ∷ []
@@ -249,11 +253,11 @@ follow (plain f) = operand_follow
 follow (atom f) = operand_follow
 follow (inner f) = operand_follow
 follow (enclosed f) = operand_follow
+follow (choice f) = operand_follow
 follow (inner_more f) = operand_follow
 follow (args f) = operand_follow
-follow (args_more f) = k.RightParen ∷ []
 follow (items f) = operand_follow
-follow (items_more f) = k.RightBracket ∷ []
+follow let_in = operand_follow
 follow comparison = term_first
 follow sum_operator = term_first
 follow prod_operator = term_first

@@ -41,7 +41,7 @@ abbrev pub literal : Pos → ℕ → Tree
 literal p n = node p (f.Int (pos (min n (2 ^ 127 - 1))))
 
 abbrev pub negative : Pos → ℕ → Tree
-negative p n = node p (f.Int (neg_ℤ (pos n)))
+negative p n = node p (f.Int (neg_ℤ (pos (min n (2 ^ 127)))))
 
 abbrev pub nullary : Op → Pos → Tree
 nullary o p = node p (f.Prim o [])

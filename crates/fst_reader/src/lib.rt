@@ -1,18 +1,22 @@
 //! From bytes to the tree that the grammar gives, or the one refusal that is due.
 #![tactic(auto)]
 
+mod atoms;
 mod body;
 mod decl;
 mod definition;
 mod form;
 mod lexeme;
 mod make;
+mod operands;
 mod operator;
+mod operators;
 mod pattern;
 mod reader;
 mod sort;
 mod sorts;
 mod terminal;
+mod terms;
 mod word;
 
 pub use body::{BodyTree, PartNode, PartTree};

@@ -4,15 +4,62 @@ ghost use Rattle.std.specs.Prelude.{◌≡◌, IfOk, true, false};
 ghost use Rattle.fst_reader.specs.Trees as t;
 
 use crate::form::{Form, FormNode};
-use crate::operator::{Comparison, Operator, Relation};
+use crate::operator::{Comparison, Digits, Operator, Relation};
 use crate::word::Word;
-use fst_base::{Box, Op, OutOfMemory, Pos, Seq};
+use fst_base::{Box, Name, Op, OutOfMemory, Pos, Seq};
 use std::alloc::Global;
 
 pub fn truth(truth: bool, at: Pos) -> Form<Word>
     ensures { result ≡ t.truth truth at }
 {
     Form { at, node: FormNode::Bool(truth) }
+}
+
+pub fn unit(at: Pos) -> Form<Word>
+    ensures { result ≡ t.unit at }
+{
+    Form { at, node: FormNode::Unit }
+}
+
+pub fn literal(digits: Digits) -> Form<Word>
+    ensures { result ≡ t.literal digits.at digits.magnitude }
+{
+    let number = digits.magnitude.min(i128::MAX as u128) as i128;
+    Form {
+        at: digits.at,
+        node: FormNode::Int(number),
+    }
+}
+
+pub fn negative(at: Pos, magnitude: u128) -> Form<Word>
+    ensures { result ≡ t.negative at magnitude }
+{
+    let number = if magnitude < 1 << 127 { -(magnitude as i128) } else { i128::MIN };
+    Form {
+        at,
+        node: FormNode::Int(number),
+    }
+}
+
+/// A reserved word that is used as a name.
+pub fn the_word(alloc: Global, text: &str, at: Pos) -> Result<Word, OutOfMemory>
+    ensures { IfOk result (λ w. w ≡ t.the_word text.now at) }
+{
+    let text = Name::new(alloc, text)?;
+    Ok(Word { text, at })
+}
+
+/// The items as a chain of pairs.
+#[tactic(auto, using(crate::proofs::Lists::steps))]
+pub fn listed(alloc: Global, at: Pos, items: Seq<Form<Word>>) -> Result<Form<Word>, OutOfMemory>
+    ensures { IfOk result (λ a. a ≡ t.listed at items) }
+{
+    let mut left = items;
+    let mut list = nullary(alloc, Op::Nil, at);
+    while let Some(item) = left.pop() {
+        list = binary(alloc, Op::Cons, at, item, list)?;
+    }
+    Ok(list)
 }
 
 pub fn ident(name: Word) -> Form<Word>

@@ -65,6 +65,13 @@ impl<'a> Reader<'a> {
         }
     }
 
+    /// Whether a token of this terminal comes next.
+    pub fn at(&self, terminal: Terminal) -> bool
+        ensures { result ≡ alphabet.same (next alphabet self.now) terminal }
+    {
+        self.peek() == terminal
+    }
+
     /// Takes a token of this terminal; its place.
     pub fn expect(&mut self, terminal: Terminal) -> Result<Pos, Stop>
         ensures reads { Reads (takes terminal self.old) result self.new }
