@@ -104,7 +104,7 @@ impl<F: Fn(bool, &mut Reader<'_>, usize) -> Result<Form<Word>, Stop>> Terms<F> {
         }
     }
 
-    #[tactic(auto, using(crate::proofs::Opens::opens))]
+    #[tactic(auto, using(crate::proofs::Enclosed::inner_opens))]
     fn inner_of_formula(&self, reader: &mut Reader<'_>, at: Pos) -> Result<Form<Word>, Stop>
         requires nests { Nests self.now.formula self.now.room (F.pre self.now.term) (F.post self.now.term) }
         requires room { length reader.old < self.now.room }
@@ -142,7 +142,7 @@ impl<F: Fn(bool, &mut Reader<'_>, usize) -> Result<Form<Word>, Stop>> Terms<F> {
         Ok(make::let_in(reader.alloc(), at, name, bound, rest)?)
     }
 
-    #[tactic(auto, using(crate::proofs::Opens::opens))]
+    #[tactic(auto, using(crate::proofs::Enclosed::enclosed_opens))]
     fn enclosed(&self, reader: &mut Reader<'_>, at: Pos) -> Result<Form<Word>, Stop>
         requires nests { Nests self.now.formula self.now.room (F.pre self.now.term) (F.post self.now.term) }
         requires room { length reader.old < self.now.room }

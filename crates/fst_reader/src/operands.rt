@@ -263,8 +263,9 @@ impl<F: Fn(bool, &mut Reader<'_>, usize) -> Result<Form<Word>, Stop>> Terms<F> {
     {
         let mut terms = Seq::new(reader.alloc());
         terms.push(first)?;
-        while reader.at(separator.terminal()) {
-            reader.expect(separator.terminal())?;
+        let mark = separator.terminal();
+        while reader.at(mark) {
+            reader.expect(mark)?;
             let term = self.nested(reader)?;
             terms.push(term)?;
         }

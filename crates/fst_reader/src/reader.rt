@@ -1,7 +1,7 @@
 //! The tokens that are left to be read.
 
-ghost use Rattle.std.specs.Prelude.{◌≡◌, ◌<◌, length, OnOk};
-ghost use Rattle.fst_grammar.specs.Alphabet.{next};
+ghost use Rattle.std.specs.Prelude.{◌≡◌, ◌<◌, [], ◌∷◌, length, OnOk};
+ghost use Rattle.fst_grammar.specs.Alphabet.{next, has};
 ghost use Rattle.fst_reader.specs.Tokens.{alphabet};
 ghost use Rattle.fst_reader.specs.Productions as n;
 ghost use Rattle.fst_reader.specs.Reading.{Reads, reads, takes, words, numbers};
@@ -67,7 +67,7 @@ impl<'a> Reader<'a> {
 
     /// Whether a token of this terminal comes next.
     pub fn at(&self, terminal: Terminal) -> bool
-        ensures { result ≡ alphabet.same (next alphabet self.now) terminal }
+        ensures { result ≡ has alphabet (terminal ∷ []) (next alphabet self.now) }
     {
         self.peek() == terminal
     }
