@@ -7,6 +7,7 @@ use Rattle.fst_grammar.specs.Reading.{Outcome, ◌>>=◌}
 use Rattle.fst_reader.specs.declared.reader.Stop.{Stop}
 use Rattle.fst_reader.specs.declared.reader.Stop.TheVariants.{Syntax, NoMemory}
 use Rattle.fst_reader.specs.declared.operator.Separator.{Separator}
+use Rattle.fst_reader.specs.declared.operator.Separator.TheVariants.{Comma, Semicolon}
 use Rattle.fst_reader.specs.declared.terminal.Terminal.{Terminal}
 use Rattle.fst_reader.specs.declared.terminal.Terminal.TheVariants as k
 use Rattle.fst_reader.specs.declared.word.Word.{Word}
@@ -114,3 +115,36 @@ list_no_term s m f ts us vs xs at Syntax w e h g =
     let h' = subst (λ m. takes m ts ≡ Ok (at, us)) w h in
     ap (behind xs) (opens (n.terms_more s f) ts) ∙ rw (e', h', g) refl
 list_no_term s m f ts us vs xs at NoMemory w e h g = tt
+
+-- a first term, the others and the closing mark
+abbrev pub bracketed : Terminal → O Tree → (List Token → O (List Tree)) → O (List Tree)
+bracketed m o more = o >>= (λ a ms. behind (a ∷ []) (more ms) >>= (λ xs us. takes m us >>= (λ _ ks. Ok (xs, ks))))
+
+closing : (a : Tree) (xs : List Tree) (o : O Pos)
+    → ◌≡◌ {A = O (List Tree)}
+        (◌>>=◌ {A = Tree × List Tree} {B = List Tree} (◌>>=◌ {A = List Tree} {B = Tree × List Tree} (◌>>=◌ {A = List Tree × Pos} {B = List Tree} (o >>= (λ p ks. Ok ((xs, p), ks))) (λ q ks. Ok (q.0, ks))) (λ ys ks. Ok ((a, ys), ks))) (λ p ks. Ok (p.0 ∷ p.1, ks)))
+        (o >>= (λ _ ks. Ok (a ∷ xs, ks)))
+closing a xs (Ok p) = refl
+closing a xs (Err ks) = refl
+
+closed_list : (m : Terminal) (a : Tree) (o : O (List Tree))
+    → ◌≡◌ {A = O (List Tree)}
+        (◌>>=◌ {A = Tree × List Tree} {B = List Tree} (◌>>=◌ {A = List Tree} {B = Tree × List Tree} (◌>>=◌ {A = List Tree × Pos} {B = List Tree} (o >>= (λ xs us. takes m us >>= (λ p ks. Ok ((xs, p), ks)))) (λ q ks. Ok (q.0, ks))) (λ ys ks. Ok ((a, ys), ks))) (λ p ks. Ok (p.0 ∷ p.1, ks)))
+        (behind (a ∷ []) o >>= (λ xs us. takes m us >>= (λ _ ks. Ok (xs, ks))))
+closed_list m a (Ok p) = closing a p.0 (takes m p.1)
+closed_list m a (Err ks) = refl
+
+whole_list : (m : Terminal) (o : O Tree) (more : List Token → O (List Tree))
+    → ◌≡◌ {A = O (List Tree)}
+        (◌>>=◌ {A = Tree × List Tree} {B = List Tree} (o >>= (λ a ms. ◌>>=◌ {A = List Tree} {B = Tree × List Tree} (◌>>=◌ {A = List Tree × Pos} {B = List Tree} (more ms >>= (λ xs us. takes m us >>= (λ p ks. Ok ((xs, p), ks)))) (λ q ks. Ok (q.0, ks))) (λ ys ks. Ok ((a, ys), ks)))) (λ p ks. Ok (p.0 ∷ p.1, ks)))
+        (bracketed m o more)
+whole_list m (Ok p) more = closed_list m p.0 (more p.1)
+whole_list m (Err ks) more = refl
+
+pub args_opens : (f : Bool) (ts : List Token) → reads (n.args f) ts
+    ≡ (if (comes (k.RightParen ∷ []) ts) then (takes k.RightParen ts >>= λ _ ks. Ok ([], ks)) else bracketed k.RightParen (reads (n.term f) ts) (reads (n.terms_more Comma f)))
+args_opens f ts = opens (n.args f) ts ∙ if_both (comes (k.RightParen ∷ []) ts) _ _ _ _ refl (whole_list k.RightParen (reads (n.term f) ts) (reads (n.terms_more Comma f)))
+
+pub items_opens : (f : Bool) (ts : List Token) → reads (n.items f) ts
+    ≡ (if (comes (k.RightBracket ∷ []) ts) then (takes k.RightBracket ts >>= λ _ ks. Ok ([], ks)) else bracketed k.RightBracket (reads (n.term f) ts) (reads (n.terms_more Semicolon f)))
+items_opens f ts = opens (n.items f) ts ∙ if_both (comes (k.RightBracket ∷ []) ts) _ _ _ _ refl (whole_list k.RightBracket (reads (n.term f) ts) (reads (n.terms_more Semicolon f)))

@@ -1,6 +1,6 @@
 //! Operands of terms and formulas.
 
-ghost use Rattle.std.specs.Prelude.{◌≡◌, ◌<◌, ◌≤◌, [], ◌∷◌, length, OnOk};
+ghost use Rattle.std.specs.Prelude.{◌≡◌, ◌<◌, ◌≤◌, true, IsTrue, [], ◌∷◌, length, OnOk};
 ghost use Rattle.fst_reader.specs.Productions as n;
 ghost use Rattle.fst_reader.specs.Reading.{Reads, reads, placed, behind};
 ghost use Rattle.fst_reader.specs.Nests.{Nests};
@@ -184,13 +184,25 @@ impl<F: Fn(bool, &mut Reader<'_>, usize) -> Result<Form<Word>, Stop>> Terms<F> {
         ensures shorter { OnOk result (length reader.new < length reader.old) }
     {
         if self.formula {
-            let name = reader.name()?;
-            let args = self.application(reader)?;
-            Ok(make::applied_to(name, args))
+            let tree = self.named_of_formula(reader)?;
+            Ok(tree)
         } else {
             let name = reader.name()?;
             Ok(make::ident(name))
         }
+    }
+
+    #[tactic(auto, using(crate::proofs::Opens::opens))]
+    fn named_of_formula(&self, reader: &mut Reader<'_>) -> Result<Form<Word>, Stop>
+        requires nests { Nests self.now.formula self.now.room (F.pre self.now.term) (F.post self.now.term) }
+        requires room { length reader.old ≤ self.now.room }
+        requires formula { IsTrue self.now.formula }
+        ensures reads { Reads (reads (n.named true) reader.old) result reader.new }
+        ensures shorter { OnOk result (length reader.new < length reader.old) }
+    {
+        let name = reader.name()?;
+        let args = self.application(reader)?;
+        Ok(make::applied_to(name, args))
     }
 
     #[tactic(auto, using(crate::proofs::Opens::opens))]
@@ -211,7 +223,7 @@ impl<F: Fn(bool, &mut Reader<'_>, usize) -> Result<Form<Word>, Stop>> Terms<F> {
     }
 
     /// What follows the parenthesis of a call.
-    #[tactic(auto, using(crate::proofs::Opens::opens))]
+    #[tactic(auto, using(crate::proofs::Enclosed::args_opens))]
     pub fn args(&self, reader: &mut Reader<'_>) -> Result<Seq<Form<Word>>, Stop>
         requires nests { Nests self.now.formula self.now.room (F.pre self.now.term) (F.post self.now.term) }
         requires room { length reader.old < self.now.room }
@@ -233,7 +245,7 @@ impl<F: Fn(bool, &mut Reader<'_>, usize) -> Result<Form<Word>, Stop>> Terms<F> {
     }
 
     /// What follows a bracket.
-    #[tactic(auto, using(crate::proofs::Opens::opens))]
+    #[tactic(auto, using(crate::proofs::Enclosed::items_opens))]
     pub fn items(&self, reader: &mut Reader<'_>) -> Result<Seq<Form<Word>>, Stop>
         requires nests { Nests self.now.formula self.now.room (F.pre self.now.term) (F.post self.now.term) }
         requires room { length reader.old < self.now.room }

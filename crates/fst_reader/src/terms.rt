@@ -83,7 +83,7 @@ impl<F: Fn(bool, &mut Reader<'_>, usize) -> Result<Form<Word>, Stop>> Terms<F> {
         ensures no_longer { OnOk result (length reader.new ≤ length reader.old) }
     {
         let mut tree = left;
-        while reader.at(Terminal::BarBar) {
+        'operators: while reader.at(Terminal::BarBar) {
             let operator = reader.expect(Terminal::BarBar)?;
             let right = self.conj(reader)?;
             tree = make::either(reader.alloc(), operator, tree, right)?;
@@ -110,7 +110,7 @@ impl<F: Fn(bool, &mut Reader<'_>, usize) -> Result<Form<Word>, Stop>> Terms<F> {
         ensures no_longer { OnOk result (length reader.new ≤ length reader.old) }
     {
         let mut tree = left;
-        while reader.at(Terminal::AmpAmp) {
+        'operators: while reader.at(Terminal::AmpAmp) {
             let operator = reader.expect(Terminal::AmpAmp)?;
             let right = self.cmp(reader)?;
             tree = make::both(reader.alloc(), operator, tree, right)?;
@@ -196,7 +196,7 @@ impl<F: Fn(bool, &mut Reader<'_>, usize) -> Result<Form<Word>, Stop>> Terms<F> {
         ensures no_longer { OnOk result (length reader.new ≤ length reader.old) }
     {
         let mut tree = left;
-        while reader.at_sum_operator() {
+        'operators: while reader.at_sum_operator() {
             let operator = reader.sum_operator()?;
             let right = self.prod(reader)?;
             tree = make::operated(reader.alloc(), operator, tree, right)?;
@@ -223,7 +223,7 @@ impl<F: Fn(bool, &mut Reader<'_>, usize) -> Result<Form<Word>, Stop>> Terms<F> {
         ensures no_longer { OnOk result (length reader.new ≤ length reader.old) }
     {
         let mut tree = left;
-        while reader.at_prod_operator() {
+        'operators: while reader.at_prod_operator() {
             let operator = reader.prod_operator()?;
             let right = self.un(reader)?;
             tree = make::operated(reader.alloc(), operator, tree, right)?;
