@@ -1,0 +1,9 @@
+pub mod ManyLemmas
+pub mod CharacterLemmas
+pub mod BlankLemmas
+pub mod WordLemmas
+pub mod NameLemmas
+pub mod MarkLemmas
+pub mod LexemeLemmas
+pub mod ScanLemmas
+pub mod NextLemmas

@@ -1,0 +1,54 @@
+ghost use Rattle.std.specs.Prelude.{◌≡◌, ◌≤◌, length};
+ghost use Rattle.fst_text.specs.Characters.{test_of, char_len, run_len};
+
+use unicode_ident::{is_xid_continue, is_xid_start};
+
+/// A class of characters.
+#[derive(Clone, Copy)]
+pub enum Class {
+    /// What an identifier may begin with.
+    Start,
+    /// What an identifier may go on with.
+    Continue,
+    /// What may stand in a comment.
+    Comment,
+}
+
+impl Class {
+    fn has(self, ch: char) -> bool
+        ensures { result ≡ test_of self ch }
+    {
+        match self {
+            Class::Start => ch == '_' || is_xid_start(ch),
+            Class::Continue => is_xid_continue(ch),
+            Class::Comment => ch != '\n',
+        }
+    }
+
+    /// How many bytes the first character has, 0 where it is not of the class or the bytes begin with none.
+    pub fn char_len(self, bytes: &[u8]) -> usize
+        ensures value { result ≡ char_len (test_of self) bytes.now }
+        ensures within { result ≤ length bytes.now }
+    {
+        let (found, size) = bstr::decode_utf8(bytes);
+        match found {
+            Some(ch) if self.has(ch) => size,
+            _ => 0,
+        }
+    }
+
+    /// How many bytes the characters of the class at the front have.
+    pub fn run_len(self, bytes: &[u8]) -> usize
+        ensures value { result ≡ run_len (test_of self) bytes.now }
+        ensures within { result ≤ length bytes.now }
+    {
+        let mut at = 0;
+        loop {
+            let size = self.char_len(&bytes[at..]);
+            if size == 0 {
+                return at;
+            }
+            at += size;
+        }
+    }
+}

@@ -1,0 +1,63 @@
+ghost use Rattle.std.specs.Prelude.{◌≡◌, ◌≤◌, ◌<◌, length, take, IfSome, IfNone};
+ghost use Rattle.std.specs.List.{prefix_len};
+ghost use Rattle.std.specs.Char.{is_ascii_digit};
+ghost use Rattle.fst_text.specs.Characters.{name_len};
+ghost use Rattle.fst_text.specs.Tokens.{kind_of, lexeme, IsLongest, BeginsNone};
+
+use crate::character::Class;
+use crate::mark::mark_len;
+use crate::token::Kind;
+use crate::word::is_word;
+
+fn name_len(bytes: &[u8]) -> usize
+    ensures value { result ≡ name_len bytes.now }
+    ensures within { result ≤ length bytes.now }
+{
+    let first = Class::Start.char_len(bytes);
+    if first == 0 {
+        return 0;
+    }
+    first + Class::Continue.run_len(&bytes[first..])
+}
+
+fn number_len(bytes: &[u8]) -> usize
+    ensures value { result ≡ prefix_len is_ascii_digit bytes.now }
+    ensures within { result ≤ length bytes.now }
+{
+    let mut at = 0;
+    while at < bytes.len() && bytes[at].is_ascii_digit() {
+        at += 1;
+    }
+    at
+}
+
+fn kind_of(name: &[u8]) -> Kind
+    ensures { result ≡ kind_of name.now }
+{
+    if is_word(name) {
+        Kind::Word
+    } else {
+        Kind::Ident
+    }
+}
+
+/// The longest token at the front: its kind and how many bytes it has.
+pub fn lexeme(bytes: &[u8]) -> Option<(Kind, usize)>
+    ensures value { result ≡ lexeme bytes.now }
+    ensures longest { IfSome result (λ found. (0 < found.1) × IsLongest found.0 found.1 bytes.now) }
+    ensures none { IfNone result (BeginsNone bytes.now) }
+{
+    let name = name_len(bytes);
+    if name > 0 {
+        return Some((kind_of(&bytes[..name]), name));
+    }
+    let number = number_len(bytes);
+    if number > 0 {
+        return Some((Kind::Number, number));
+    }
+    let mark = mark_len(bytes);
+    if mark > 0 {
+        return Some((Kind::Mark, mark));
+    }
+    None
+}

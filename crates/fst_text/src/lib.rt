@@ -1,0 +1,15 @@
+//! The scanner: bytes to tokens, each the longest that fits, and the place of the first fault.
+#![tactic(auto)]
+
+mod blank;
+mod character;
+mod lexeme;
+mod mark;
+mod scanner;
+#[cfg(test)]
+mod tests;
+mod token;
+mod word;
+
+pub use scanner::Scanner;
+pub use token::{Kind, Token};
