@@ -148,3 +148,34 @@ args_opens f ts = opens (n.args f) ts ∙ if_both (comes (k.RightParen ∷ []) t
 pub items_opens : (f : Bool) (ts : List Token) → reads (n.items f) ts
     ≡ (if (comes (k.RightBracket ∷ []) ts) then (takes k.RightBracket ts >>= λ _ ks. Ok ([], ks)) else bracketed k.RightBracket (reads (n.term f) ts) (reads (n.terms_more Semicolon f)))
 items_opens f ts = opens (n.items f) ts ∙ if_both (comes (k.RightBracket ∷ []) ts) _ _ _ _ refl (whole_list k.RightBracket (reads (n.term f) ts) (reads (n.terms_more Semicolon f)))
+
+-- what follows a minus
+minus_at : (at p : Pos) (o : O (Pos → Tree))
+    → ◌≡◌ {A = O Tree} (given at (◌>>=◌ {A = Pos × (Pos → Tree)} {B = Pos → Tree} (o >>= λ g ks. Ok ((p, g), ks)) (λ q ks. Ok ((λ at. t.unary op.Neg at (q.1 q.0)), ks)))) (placed p o >>= λ a ks. Ok (t.unary op.Neg at a, ks))
+minus_at at p (Ok q) = refl
+minus_at at p (Err ks) = refl
+
+not_at : (at p : Pos) (o : O Tree)
+    → ◌≡◌ {A = O Tree} (given at (◌>>=◌ {A = Pos × Tree} {B = Pos → Tree} (o >>= λ g ks. Ok ((p, g), ks)) (λ q ks. Ok ((λ at. t.unary op.Neg at (t.negation q.0 q.1)), ks)))) (o >>= λ a ks. Ok (t.unary op.Neg at (t.negation p a), ks))
+not_at at p (Ok q) = refl
+not_at at p (Err ks) = refl
+
+minus_act : (at : Pos) (o : O Pos) (more : List Token → O (Pos → Tree))
+    → ◌≡◌ {A = O Tree} (given at (◌>>=◌ {A = Pos × (Pos → Tree)} {B = Pos → Tree} (o >>= λ p ms. more ms >>= λ g ks. Ok ((p, g), ks)) (λ q ks. Ok ((λ at. t.unary op.Neg at (q.1 q.0)), ks)))) (o >>= λ p ms. placed p (more ms) >>= λ a ks. Ok (t.unary op.Neg at a, ks))
+minus_act at (Ok p) more = minus_at at p.0 (more p.1)
+minus_act at (Err ks) more = refl
+
+not_act : (at : Pos) (o : O Pos) (more : List Token → O Tree)
+    → ◌≡◌ {A = O Tree} (given at (◌>>=◌ {A = Pos × Tree} {B = Pos → Tree} (o >>= λ p ms. more ms >>= λ g ks. Ok ((p, g), ks)) (λ q ks. Ok ((λ at. t.unary op.Neg at (t.negation q.0 q.1)), ks)))) (o >>= λ p ms. more ms >>= λ a ks. Ok (t.unary op.Neg at (t.negation p a), ks))
+not_act at (Ok p) more = not_at at p.0 (more p.1)
+not_act at (Err ks) more = refl
+
+pub negated_opens : (f : Bool) (at : Pos) (ts : List Token) → placed at (reads (n.negated f) ts)
+    ≡ (if (comes (k.Small ∷ k.Number ∷ []) ts) then (reads n.number ts >>= (λ d ks. Ok (t.negative at d.magnitude, ks))) else
+        (if (comes (k.Minus ∷ []) ts) then (takes k.Minus ts >>= (λ p ms. placed p (reads (n.negated f) ms) >>= (λ a ks. Ok (t.unary op.Neg at a, ks)))) else
+        (if (comes (k.Not ∷ []) ts) then (takes k.Not ts >>= (λ p ms. reads (n.un f) ms >>= (λ a ks. Ok (t.unary op.Neg at (t.negation p a), ks)))) else
+        (reads (n.solid f) ts >>= (λ a ks. Ok (t.unary op.Neg at a, ks))))))
+negated_opens f at ts = ap (placed at) (opens (n.negated f) ts) ∙ given_if at _ _ _
+    ∙ if_both (comes (k.Small ∷ k.Number ∷ []) ts) _ _ _ _ (given_act at (reads n.number ts) (λ d p. t.negative p d.magnitude)) (given_if at _ _ _
+    ∙ if_both (comes (k.Minus ∷ []) ts) _ _ _ _ (minus_act at (takes k.Minus ts) (reads (n.negated f))) (given_if at _ _ _
+    ∙ if_both (comes (k.Not ∷ []) ts) _ _ _ _ (not_act at (takes k.Not ts) (reads (n.un f))) (given_act at (reads (n.solid f) ts) (λ a p. t.unary op.Neg p a))))

@@ -1,4 +1,5 @@
 pub mod Tokens
+pub mod Spelling
 pub mod Separators
 pub mod Trees
 pub mod Productions

@@ -15,6 +15,7 @@ mod pattern;
 mod reader;
 mod sort;
 mod sorts;
+mod spelling;
 mod terminal;
 mod terms;
 mod word;

@@ -76,7 +76,7 @@ impl<F: Fn(bool, &mut Reader<'_>, usize) -> Result<Form<Word>, Stop>> Terms<F> {
 
     /// What follows a minus, which stands at this place.
     #[cycle(un)]
-    #[tactic(auto, using(crate::proofs::Opens::opens))]
+    #[tactic(auto, using(crate::proofs::Enclosed::negated_opens))]
     fn negated(&self, reader: &mut Reader<'_>, at: Pos) -> Result<Form<Word>, Stop>
         requires nests { Nests self.now.formula self.now.room (F.pre self.now.term) (F.post self.now.term) }
         requires room { length reader.old ≤ self.now.room }
