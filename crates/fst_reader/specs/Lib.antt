@@ -1,5 +1,6 @@
 pub mod Tokens
 pub mod Spelling
+pub mod Lexemes
 pub mod Separators
 pub mod Trees
 pub mod Productions

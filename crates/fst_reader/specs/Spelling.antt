@@ -3,7 +3,7 @@ use Rattle.std.specs.Prelude.{ℕ, List, [], ◌∷◌, codes, bytes_eq, if◌th
 use Rattle.fst_reader.specs.declared.terminal.Terminal.{Terminal}
 use Rattle.fst_reader.specs.declared.terminal.Terminal.TheVariants as k
 
-abbrev pub spelled : List (List ℕ × Terminal)
+unfoldable pub spelled : List (List ℕ × Terminal)
 spelled = (codes "fun", k.Fun)
     ∷ (codes "effect", k.Effect)
     ∷ (codes "lift", k.Lift)

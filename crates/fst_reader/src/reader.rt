@@ -180,7 +180,7 @@ impl<'a> Reader<'a> {
 }
 
 /// The number that the digits are, up to 2^127.
-fn magnitude(digits: &str) -> u128
+pub fn magnitude(digits: &str) -> u128
     ensures { result ≡ magnitude digits.now }
 {
     let mut number: u128 = 0;

@@ -101,6 +101,7 @@ static OF_9: [(&[u8], Terminal); 1] = [
 ];
 
 /// The words and marks of this length.
+#[tactic(auto, unfolding(crate::specs::Spelling::spelled))]
 fn of_length(len: usize) -> &'static [(&'static [u8], Terminal)]
     ensures { map (λ w. (w.0.now, w.1)) result.now ≡ filter (λ w. length w.0 == len) spelled }
 {
@@ -121,10 +122,12 @@ fn of_length(len: usize) -> &'static [(&'static [u8], Terminal)]
 fn found(among: &[(&[u8], Terminal)], text: &[u8]) -> Terminal
     ensures { result ≡ spelled_by (map (λ w. (w.0.now, w.1)) among.now) text.now }
 {
-    for (word, terminal) in among {
-        if *word == text {
-            return *terminal;
+    let mut left = among;
+    'words: while let [word, rest @ ..] = left {
+        if word.0 == text {
+            return word.1;
         }
+        left = rest;
     }
     Terminal::Held
 }
