@@ -49,11 +49,12 @@ pub data N : Type 0 where
   effect base two_names three_names lift : N
   fun head needs gives measures depth : N
   measures_more : ℕ → N
-  effname params param refinement : N
+  effname params param hidden refinement : N
   sort sort_more sat : N
-  body block binding annotation part after_name rest : N
+  body ghost_let plain_let assertion branching matching block binding annotation : N
+  part block_part reify reflect named_part after_name operation rest : N
   arms arms_more arm : N
-  dm dm_block dm_binding dmpart dm_after_name : N
+  dm dm_let dm_branching dm_matching dm_block dm_binding dmpart dm_named_part dm_after_name run_args second : N
   dm_arms dm_arms_more dm_arm : N
   pattern : N
   term implies_more disj disj_more conj conj_more cmp cmp_more con con_more sum sum_more prod prod_more : Bool → N
@@ -81,15 +82,26 @@ T depth = ℕ
 T effname = EffectName Word
 T params = List (ParamTree Word)
 T param = ParamTree Word
+T hidden = Bool
 T refinement = Option Tree
 T sort = SortTree Word
 T sat = SortTree Word
 T sort_more = Option (SortTree Word)
 T body = BodyTree Word
 T block = BodyTree Word
+T ghost_let = BodyTree Word
+T plain_let = BodyTree Word
+T assertion = BodyTree Word
+T branching = BodyTree Word
+T matching = BodyTree Word
+T block_part = PartTree Word
+T reify = PartTree Word
+T reflect = PartTree Word
 T binding = Binding (PartTree Word)
 T annotation = Option (SortTree Word)
 T part = PartTree Word
+T named_part = PartTree Word
+T operation = Tree
 T after_name = Word → PartTree Word
 T rest = Tree → Tree
 T arms = List (ArmTree (BodyTree Word))
@@ -97,8 +109,14 @@ T arms_more = List (ArmTree (BodyTree Word))
 T arm = ArmTree (BodyTree Word)
 T dm = DmTree Word
 T dm_block = DmTree Word
+T dm_let = DmTree Word
+T dm_branching = DmTree Word
+T dm_matching = DmTree Word
 T dm_binding = Binding (DmTree Word)
 T dmpart = DmTree Word
+T dm_named_part = DmTree Word
+T run_args = List Tree
+T second = Option Tree
 T dm_after_name = Word → DmTree Word
 T dm_arms = List (ArmTree (DmTree Word))
 T dm_arms_more = List (ArmTree (DmTree Word))
@@ -227,8 +245,9 @@ rule effname = (λ _. E.Pure) ⇐ mark k.PureEffect
     ∣ E.User ⇐ call name
 rule params = (λ p. p.0 ∷ p.1) ⇐ call param ⋅ call params
     ∣ (λ _. []) ⇐ empty
-rule param = (λ p. record { hidden = t.is_there p.0; name = p.1.0; sort = p.1.1.0; refine = p.1.1.1 })
-    ⇐ optional (mark k.Ghost) ⋅ k.LeftParen ▸ call binder ⋅ k.Colon ▸ call sort ⋅ call refinement ◂ k.RightParen
+rule param = (λ p. record { hidden = p.0; name = p.1.0; sort = p.1.1.0; refine = p.1.1.1 })
+    ⇐ call hidden ⋅ k.LeftParen ▸ call binder ⋅ k.Colon ▸ call sort ⋅ call refinement ◂ k.RightParen
+rule hidden = t.is_there ⇐ optional (mark k.Ghost)
 rule refinement = (λ a. a) ⇐ optional (k.LeftBrace ▸ call (term true) ◂ k.RightBrace)
 
 rule sort = (λ p. product p.0 p.1) ⇐ call sat ⋅ call sort_more
@@ -242,25 +261,35 @@ rule sat = (λ _. S.Unit) ⇐ mark k.Unit
     ∣ S.Ident ⇐ call name
     ∣ (λ s. s) ⇐ k.LeftParen ▸ call sort ◂ k.RightParen
 
-rule body = (λ p. B.GhostLet p.0.name p.0.sort p.0.part p.1) ⇐ k.Ghost ▸ k.Let ▸ call binding ⋅ call body
-    ∣ (λ p. B.Let p.0.name p.0.sort p.0.part p.1) ⇐ k.Let ▸ call binding ⋅ call body
-    ∣ (λ p. B.Assert p.1.0 p.0 p.1.1) ⇐ mark k.Assert ⋅ call (term true) ⋅ k.Semicolon ▸ call body
-    ∣ (λ p. B.If p.0 p.1.0 p.1.1) ⇐ k.If ▸ call (term false) ⋅ k.Then ▸ call body ⋅ k.Else ▸ call body
-    ∣ (λ p. B.Match p.1.0 p.0 p.1.1) ⇐ mark k.Match ⋅ call (term false) ⋅ k.With ▸ call arms ◂ k.EndWord
+rule body = (λ a. a) ⇐ call ghost_let
+    ∣ (λ a. a) ⇐ call plain_let
+    ∣ (λ a. a) ⇐ call assertion
+    ∣ (λ a. a) ⇐ call branching
+    ∣ (λ a. a) ⇐ call matching
     ∣ B.Part ⇐ call part
+rule ghost_let = (λ p. B.GhostLet p.0.name p.0.sort p.0.part p.1) ⇐ k.Ghost ▸ k.Let ▸ call binding ⋅ call body
+rule plain_let = (λ p. B.Let p.0.name p.0.sort p.0.part p.1) ⇐ k.Let ▸ call binding ⋅ call body
+rule assertion = (λ p. B.Assert p.1.0 p.0 p.1.1) ⇐ mark k.Assert ⋅ call (term true) ⋅ k.Semicolon ▸ call body
+rule branching = (λ p. B.If p.0 p.1.0 p.1.1) ⇐ k.If ▸ call (term false) ⋅ k.Then ▸ call body ⋅ k.Else ▸ call body
+rule matching = (λ p. B.Match p.1.0 p.0 p.1.1) ⇐ mark k.Match ⋅ call (term false) ⋅ k.With ▸ call arms ◂ k.EndWord
 rule block = (λ a. a) ⇐ k.LeftBrace ▸ call body ◂ k.RightBrace
 rule binding = (λ p. record { name = p.0; sort = p.1.0; part = p.1.1 }) ⇐ call binder ⋅ call annotation ⋅ k.Equal ▸ call part ◂ k.In
 rule annotation = (λ a. a) ⇐ optional (k.Colon ▸ call sort)
 
 -- NAME '(' [term {',' term}] ')' and the terms that begin with a NAME are the fourth row: the token after the NAME settles
 -- which. Other terms are the fifth.
-rule part = (λ p. record { at = p.0; node = P.Block p.1 }) ⇐ mark k.LeftBrace ⋅ call body ◂ k.RightBrace
-    ∣ (λ p. record { at = p.0; node = P.Reify p.1.0 p.1.1.0 p.1.1.1.0 p.1.1.1.1 }) ⇐ mark k.Reify ⋅ call name ⋅ call sort ⋅ call block ⋅ k.LeftParen ▸ call (term false) ◂ k.RightParen
-    ∣ (λ p. record { at = p.0; node = P.Reflect p.1.0 p.1.1.0 p.1.1.1.0 p.1.1.1.1 }) ⇐ mark k.Reflect ⋅ call name ⋅ call sort ⋅ k.LeftParen ▸ call binder ⋅ k.RightParen ▸ call block
-    ∣ (λ p. p.1 p.0) ⇐ call name ⋅ call after_name
-    ∣ (λ p. term_part (p.1 p.0)) ⇐ call (other false) ⋅ call rest
+rule part = (λ a. a) ⇐ call block_part
+    ∣ (λ a. a) ⇐ call reify
+    ∣ (λ a. a) ⇐ call reflect
+    ∣ (λ a. a) ⇐ call named_part
+    ∣ term_part ⇐ call operation
+rule block_part = (λ p. record { at = p.0; node = P.Block p.1 }) ⇐ mark k.LeftBrace ⋅ call body ◂ k.RightBrace
+rule reify = (λ p. record { at = p.0; node = P.Reify p.1.0 p.1.1.0 p.1.1.1.0 p.1.1.1.1 }) ⇐ mark k.Reify ⋅ call name ⋅ call sort ⋅ call block ⋅ k.LeftParen ▸ call (term false) ◂ k.RightParen
+rule reflect = (λ p. record { at = p.0; node = P.Reflect p.1.0 p.1.1.0 p.1.1.1.0 p.1.1.1.1 }) ⇐ mark k.Reflect ⋅ call name ⋅ call sort ⋅ k.LeftParen ▸ call binder ⋅ k.RightParen ▸ call block
+rule named_part = (λ p. p.1 p.0) ⇐ call name ⋅ call after_name
 rule after_name = (λ arguments w. record { at = w.at; node = P.Call w arguments }) ⇐ k.LeftParen ▸ call (args false)
     ∣ (λ more w. term_part (more (t.ident w))) ⇐ call rest
+rule operation = (λ p. p.1 p.0) ⇐ call (other false) ⋅ call rest
 -- what may follow the first operand of a term
 rule rest = (λ p a. t.implied_by (p.1.1.1.1.1.0 (p.1.1.1.1.0 (t.compared_by (t.cons_by (p.1.0 (p.0 a)) p.1.1.0) p.1.1.1.0))) p.1.1.1.1.1.1)
     ⇐ call (prod_more false) ⋅ call (sum_more false) ⋅ call (con_more false) ⋅ call (cmp_more false) ⋅ call (conj_more false) ⋅ call (disj_more false) ⋅ call (implies_more false)
@@ -270,19 +299,25 @@ rule arms_more = (λ p. p.0 ∷ p.1) ⇐ call arm ⋅ call arms_more
     ∣ (λ _. []) ⇐ empty
 rule arm = (λ p. record { at = p.0.at; con = p.0.con; names = p.0.names; body = p.1 }) ⇐ k.Bar ▸ call pattern ⋅ k.Arrow ▸ call body
 
-rule dm = (λ p. D.Let p.0.name p.0.sort p.0.part p.1) ⇐ k.Let ▸ call dm_binding ⋅ call dm
-    ∣ (λ p. D.If p.0 p.1.0 p.1.1) ⇐ k.If ▸ call (term false) ⋅ k.Then ▸ call dm ⋅ k.Else ▸ call dm
-    ∣ (λ p. D.Match p.1.0 p.0 p.1.1) ⇐ mark k.Match ⋅ call (term false) ⋅ k.With ▸ call dm_arms ◂ k.EndWord
+rule dm = (λ a. a) ⇐ call dm_let
+    ∣ (λ a. a) ⇐ call dm_branching
+    ∣ (λ a. a) ⇐ call dm_matching
     ∣ (λ a. a) ⇐ call dmpart
+rule dm_let = (λ p. D.Let p.0.name p.0.sort p.0.part p.1) ⇐ k.Let ▸ call dm_binding ⋅ call dm
+rule dm_branching = (λ p. D.If p.0 p.1.0 p.1.1) ⇐ k.If ▸ call (term false) ⋅ k.Then ▸ call dm ⋅ k.Else ▸ call dm
+rule dm_matching = (λ p. D.Match p.1.0 p.0 p.1.1) ⇐ mark k.Match ⋅ call (term false) ⋅ k.With ▸ call dm_arms ◂ k.EndWord
 rule dm_block = (λ a. a) ⇐ k.LeftBrace ▸ call dm ◂ k.RightBrace
 rule dm_binding = (λ p. record { name = p.0; sort = p.1.0; part = p.1.1 }) ⇐ call binder ⋅ call annotation ⋅ k.Equal ▸ call dmpart ◂ k.In
 
 -- NAME '(' term ')', NAME '(' term ',' term ')' and the terms that begin with a NAME are the second row, other terms the third.
 rule dmpart = (λ p. D.Block p.0 p.1) ⇐ mark k.LeftBrace ⋅ call dm ◂ k.RightBrace
-    ∣ (λ p. p.1 p.0) ⇐ call name ⋅ call dm_after_name
-    ∣ (λ p. D.Term (p.1 p.0)) ⇐ call (other false) ⋅ call rest
-rule dm_after_name = (λ p w. D.Run w (one_or_two p.0 p.1)) ⇐ k.LeftParen ▸ call (term false) ⋅ optional (k.Comma ▸ call (term false)) ◂ k.RightParen
+    ∣ (λ a. a) ⇐ call dm_named_part
+    ∣ D.Term ⇐ call operation
+rule dm_named_part = (λ p. p.1 p.0) ⇐ call name ⋅ call dm_after_name
+rule dm_after_name = (λ arguments w. D.Run w arguments) ⇐ k.LeftParen ▸ call run_args
     ∣ (λ more w. D.Term (more (t.ident w))) ⇐ call rest
+rule run_args = (λ p. one_or_two p.0 p.1) ⇐ call (term false) ⋅ call second ◂ k.RightParen
+rule second = (λ a. a) ⇐ optional (k.Comma ▸ call (term false))
 rule dm_arms = (λ p. p.0 ∷ p.1) ⇐ call dm_arm ⋅ call dm_arms_more
 rule dm_arms_more = (λ p. p.0 ∷ p.1) ⇐ call dm_arm ⋅ call dm_arms_more
     ∣ (λ _. []) ⇐ empty
@@ -395,4 +430,4 @@ rule binder = word ⇐ token k.Name
 rule number = digits ⇐ token k.Small
     ∣ digits ⇐ token k.Number
 -- a number from 0 to 4
-rule small = (λ u. min (t.decimal u.text) 4) ⇐ token k.Small
+rule small = (λ u. min (t.magnitude u.text) 4) ⇐ token k.Small
