@@ -40,7 +40,7 @@ module _ {A : Type 0} where
   -- what a chain's tail gives: an operator, an operand and the tail again where the test holds, else nothing
   abbrev pub chain : (A → Tree → Tree → Tree) → Bool → Outcome Token A → (List Token → Outcome Token Tree) → (List Token → Outcome Token (Tree → Tree)) → List Token → Outcome Token (Tree → Tree)
   chain make test operator operand more ms = if test
-      then ((operator >>= (λ p us. (operand us >>= (λ b vs. more vs >>= (λ g ks. Ok ((b, g), ks)))) >>= (λ q ks. Ok ((p, q), ks)))) >>= (λ p ks. Ok ((λ a. p.1.1 (make p.0 a p.1.0)), ks)))
+      then (◌>>=◌ {A = A × (Tree × (Tree → Tree))} {B = Tree → Tree} (operator >>= (λ p us. ◌>>=◌ {A = Tree × (Tree → Tree)} {B = A × (Tree × (Tree → Tree))} (operand us >>= (λ b vs. more vs >>= (λ g ks. Ok ((b, g), ks)))) (λ q ks. Ok ((p, q), ks)))) (λ p ks. Ok ((λ a. p.1.1 (make p.0 a p.1.0)), ks)))
       else (Ok ((λ a. a), ms))
 
   -- the facts that a loop over a chain's tail keeps to

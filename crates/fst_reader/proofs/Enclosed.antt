@@ -17,29 +17,25 @@ use Rattle.fst_reader.specs.Trees as t
 use Rattle.fst_reader.specs.Trees.{Tree}
 use Rattle.fst_reader.specs.Productions as n
 use Rattle.fst_reader.specs.Tables.{firsts}
-use Rattle.fst_reader.specs.Reading.{Reads, reads, takes, applied, placed, closed, behind}
+use Rattle.fst_reader.specs.Reading.{Reads, reads, takes, given, placed, closed, behind}
 use Rattle.fst_reader.proofs.Opens.{opens}
 
-abbrev O : Type 0 → Type 0
+abbrev pub O : Type 0 → Type 0
 O A = Outcome Token A
 
 -- whether one of these comes next
 abbrev pub comes : List Terminal → List Token → Bool
 comes ks ts = has alphabet ks (next alphabet ts)
 
--- a tree that waits for a value
-abbrev pub given : {B C : Type 0} → B → O (B → C) → O C
-given at o = o >>= λ f ks. Ok (f at, ks)
-
-given_if : {B C : Type 0} (at : B) (b : Bool) (x y : O (B → C)) → given at (if b then x else y) ≡ (if b then given at x else given at y)
+pub given_if : {B C : Type 0} (at : B) (b : Bool) (x y : O (B → C)) → given at (if b then x else y) ≡ (if b then given at x else given at y)
 given_if at true x y = refl
 given_if at false x y = refl
 
-given_act : {A B C : Type 0} (at : B) (o : O A) (f : A → B → C) → ◌≡◌ {A = O C} (given at (o >>= λ a ks. Ok (f a, ks))) (o >>= λ a ks. Ok (f a at, ks))
+pub given_act : {A B C : Type 0} (at : B) (o : O A) (f : A → B → C) → ◌≡◌ {A = O C} (given at (o >>= λ a ks. Ok (f a, ks))) (o >>= λ a ks. Ok (f a at, ks))
 given_act at (Ok p) f = refl
 given_act at (Err ks) f = refl
 
-if_both : {C : Type 0} (b : Bool) (x x' y y' : O C) → x ≡ x' → y ≡ y' → (if b then x else y) ≡ (if b then x' else y')
+pub if_both : {C : Type 0} (b : Bool) (x x' y y' : O C) → x ≡ x' → y ≡ y' → (if b then x else y) ≡ (if b then x' else y')
 if_both true x x' y y' e h = e
 if_both false x x' y y' e h = h
 
@@ -48,7 +44,7 @@ closed_at : (at : Pos) (a : Tree) (o : O (Tree → Pos → Tree))
 closed_at at a (Ok p) = refl
 closed_at at a (Err ks) = refl
 
-same_tree : {C : Type 0} (o : O C) → ◌≡◌ {A = O C} (o >>= λ a ks. Ok (a, ks)) o
+pub same_tree : {C : Type 0} (o : O C) → ◌≡◌ {A = O C} (o >>= λ a ks. Ok (a, ks)) o
 same_tree (Ok p) = refl
 same_tree (Err ks) = refl
 

@@ -7,3 +7,4 @@ pub mod Productions
 pub mod Tables
 pub mod Reading
 pub mod Nests
+pub mod Limits

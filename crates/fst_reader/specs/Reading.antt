@@ -36,18 +36,21 @@ words k ts = run (token k) ts >>= λ t ks. Ok (word t, ks)
 abbrev pub numbers : Terminal → List Token → Outcome Token Digits
 numbers k ts = run (token k) ts >>= λ t ks. Ok (digits t, ks)
 
--- a first operand put through what is read behind it
+-- what is read as a tree that waits for a value, given that value
+abbrev pub given : {B C : Type 0} → B → Outcome Token (B → C) → Outcome Token C
+given b o = o >>= λ tree ks. Ok (tree b, ks)
+
 abbrev pub applied : Tree → Outcome Token (Tree → Tree) → Outcome Token Tree
-applied a o = o >>= λ more ks. Ok (more a, ks)
+applied a o = given a o
 
 abbrev pub placed : Pos → Outcome Token (Pos → Tree) → Outcome Token Tree
-placed at o = o >>= λ more ks. Ok (more at, ks)
+placed at o = given at o
 
 abbrev pub closed : Tree → Pos → Outcome Token (Tree → Pos → Tree) → Outcome Token Tree
 closed a at o = o >>= λ more ks. Ok (more a at, ks)
 
 -- a list's front with what is read behind it
-abbrev pub behind : List Tree → Outcome Token (List Tree) → Outcome Token (List Tree)
+abbrev pub behind : {A : Type 0} → List A → Outcome Token (List A) → Outcome Token (List A)
 behind front o = o >>= λ more ks. Ok (front ++ more, ks)
 
 -- The function gives the outcome, with these tokens left, unless memory fails.

@@ -17,9 +17,9 @@ use Rattle.fst_reader.specs.declared.operator.Relation.TheVariants as r
 abbrev pub decimal : List ℕ → ℕ
 decimal digits = fold (λ n digit. n * 10 + (digit - 48)) 0 digits
 
--- The least number past 128 bits stands for all: a text with such a literal is refused.
+-- 2^127 + 1 stands for all that are greater: a text with such a literal is refused.
 abbrev pub magnitude : List ℕ → ℕ
-magnitude digits = min (decimal digits) (2 ^ 127)
+magnitude digits = min (decimal digits) (2 ^ 127 + 1)
 
 abbrev pub Tree : Type 0
 Tree = Form Word

@@ -2,16 +2,23 @@
 #![tactic(auto)]
 
 mod atoms;
+mod bodies;
 mod body;
 mod decl;
+mod decls;
 mod definition;
+mod definitions;
 mod form;
+mod heads;
 mod lexeme;
+mod limits;
 mod make;
 mod operands;
 mod operator;
 mod operators;
+mod parts;
 mod pattern;
+mod patterns;
 mod reader;
 mod sort;
 mod sorts;

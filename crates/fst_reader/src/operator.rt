@@ -28,7 +28,7 @@ pub struct Comparison {
     pub at: Pos,
 }
 
-/// A number at its place; a magnitude past 128 bits stands at 2^127.
+/// A number at its place; a magnitude past 2^127 stands at 2^127 + 1.
 #[derive(Clone, Copy, Debug)]
 pub struct Digits {
     pub at: Pos,

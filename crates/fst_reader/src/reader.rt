@@ -55,6 +55,13 @@ impl<'a> Reader<'a> {
         self.alloc
     }
 
+    /// How many tokens are left.
+    pub fn left(&self) -> usize
+        ensures { result ≡ length self.now }
+    {
+        self.rest.len()
+    }
+
     /// The terminal of the next token.
     pub fn peek(&self) -> Terminal
         ensures { result ≡ next alphabet self.now }
@@ -113,7 +120,7 @@ impl<'a> Reader<'a> {
     }
 
     /// Takes a token of this terminal, as digits.
-    fn digits(&mut self, terminal: Terminal) -> Result<Digits, Stop>
+    pub fn digits(&mut self, terminal: Terminal) -> Result<Digits, Stop>
         ensures reads { Reads (numbers terminal self.old) result self.new }
         ensures shorter { OnOk result (length self.new < length self.old) }
     {
@@ -179,14 +186,14 @@ impl<'a> Reader<'a> {
     }
 }
 
-/// The number that the digits are, up to 2^127.
+/// The number that the digits are, up to 2^127 + 1.
 pub fn magnitude(digits: &str) -> u128
     ensures { result ≡ magnitude digits.now }
 {
     let mut number: u128 = 0;
     for digit in digits.as_bytes() {
         let digit = digit.saturating_sub(b'0') as u128;
-        number = number.saturating_mul(10).saturating_add(digit).min(1 << 127);
+        number = number.saturating_mul(10).saturating_add(digit).min((1 << 127) + 1);
     }
     number
 }
