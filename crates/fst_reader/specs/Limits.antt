@@ -45,24 +45,24 @@ ends_operand _ = false
 
 -- the brackets that are open behind a token
 abbrev pub opened : Seen → Terminal → ℕ
-opened s k = if opens k then s.open + 1 else (if closes k then s.open - 1 else s.open)
+opened s terminal = if opens terminal then s.brackets + 1 else (if closes terminal then s.brackets - 1 else s.brackets)
 
 -- the tokens of the declaration up to this one; before the first declaration there are none
 abbrev pub counted : Seen → Terminal → ℕ
-counted s k = if declares k then 1 else (if nat_lt 0 s.declared then s.declared + 1 else 0)
+counted s terminal = if declares terminal then 1 else (if nat_lt 0 s.declared then s.declared + 1 else 0)
 
 -- what stands before the next token
 abbrev pub see : Seen → Terminal → Pos → Seen
-see s k at = record {
-  open = opened s k;
-  declared = counted s k;
-  operand = ends_operand k;
-  minus = if alphabet.same k k.Minus && not s.operand then Some at else None;
+see s terminal at = record {
+  brackets = opened s terminal;
+  declared = counted s terminal;
+  operand = ends_operand terminal;
+  minus = if alphabet.same terminal k.Minus && not s.operand then Some at else None;
 }
 
 -- the 257th open bracket, or the 2,049th token of a declaration
 abbrev pub is_deep : Seen → Terminal → Bool
-is_deep s k = nat_lt 256 (opened s k) || nat_lt 2048 (counted s k)
+is_deep s terminal = nat_lt 256 (opened s terminal) || nat_lt 2048 (counted s terminal)
 
 -- the digits are a literal outside 128 bits, with its minus where it has one
 abbrev pub is_wide_behind : Option Pos → List ℕ → Bool
@@ -90,4 +90,4 @@ limit_from s i [] = None
 limit_from s i (t ∷ ts) = limit_at i (passed s t) (limit_from (see s t.terminal (alphabet.place t)) (i + 1) ts)
 
 abbrev pub first_limit : List Token → Option Limit
-first_limit ts = limit_from (record { open = 0; declared = 0; operand = false; minus = None }) 0 ts
+first_limit ts = limit_from (record { brackets = 0; declared = 0; operand = false; minus = None }) 0 ts

@@ -1,6 +1,6 @@
 //! The limits on what is read: open brackets, tokens of a declaration, and the size of literals.
 
-ghost use Rattle.std.specs.Prelude.{◌≡◌, ◌≤◌, ◌<◌, ◌^◌, IsTrue, length, map};
+ghost use Rattle.std.specs.Prelude.{◌≡◌, ◌≤◌, ◌<◌, ◌^◌, false, length, map, IfSome, IfNone};
 ghost use Rattle.fst_reader.specs.Limits as l;
 ghost use Rattle.fst_reader.specs.Tokens.{token_of};
 
@@ -13,7 +13,7 @@ use fst_base::{Pos, Rule};
 #[derive(Clone, Copy, Debug)]
 pub struct Seen {
     /// The brackets that are open.
-    pub open: usize,
+    pub brackets: usize,
     /// The tokens since the last word that begins a declaration, that word included.
     pub declared: usize,
     /// Whether the last token may end an operand.
@@ -71,15 +71,15 @@ fn ends_operand(terminal: Terminal) -> bool
 
 impl Seen {
     fn opened(&self, terminal: Terminal) -> usize
-        requires { self.now.open ≤ 256 }
+        requires { self.now.brackets ≤ 256 }
         ensures { result ≡ l.opened self.now terminal }
     {
         if opens(terminal) {
-            self.open + 1
+            self.brackets + 1
         } else if closes(terminal) {
-            self.open.saturating_sub(1)
+            self.brackets.saturating_sub(1)
         } else {
-            self.open
+            self.brackets
         }
     }
 
@@ -98,13 +98,13 @@ impl Seen {
 
     /// What stands before the next token.
     fn see(&self, terminal: Terminal, at: Pos) -> Seen
-        requires open { self.now.open ≤ 256 }
+        requires open { self.now.brackets ≤ 256 }
         requires declared { self.now.declared ≤ 2048 }
         ensures { result ≡ l.see self.now terminal at }
     {
         let minus = if terminal == Terminal::Minus && !self.operand { Some(at) } else { None };
         Seen {
-            open: self.opened(terminal),
+            brackets: self.opened(terminal),
             declared: self.counted(terminal),
             operand: ends_operand(terminal),
             minus,
@@ -113,18 +113,20 @@ impl Seen {
 
     /// Whether the bracket or the token is one too many.
     fn is_deep(&self, terminal: Terminal) -> bool
-        requires open { self.now.open ≤ 256 }
+        requires open { self.now.brackets ≤ 256 }
         requires declared { self.now.declared ≤ 2048 }
-        ensures { result ≡ l.is_deep self.now terminal }
+        ensures value { result ≡ l.is_deep self.now terminal }
+        ensures shallow { result ≡ false → (l.opened self.now terminal ≤ 256) × (l.counted self.now terminal ≤ 2048) }
     {
         self.opened(terminal) > 256 || self.counted(terminal) > 2048
     }
 
     /// The rule that the token breaks, and its place.
     fn passed(&self, token: Lexeme<'_>) -> Option<(Rule, Pos)>
-        requires open { self.now.open ≤ 256 }
+        requires open { self.now.brackets ≤ 256 }
         requires declared { self.now.declared ≤ 2048 }
-        ensures { result ≡ l.passed self.now (token_of token.entry) }
+        ensures value { result ≡ l.passed self.now (token_of token.entry) }
+        ensures shallow { IfNone result ((l.opened self.now token.entry.terminal ≤ 256) × (l.counted self.now token.entry.terminal ≤ 2048)) }
     {
         let at = Pos { at: token.at };
         let wide = token.terminal == Terminal::Number && self.is_wide(token.text);
@@ -149,10 +151,11 @@ impl Seen {
 
 pub fn first_limit(tokens: &[Lexeme<'_>]) -> Option<Limit>
     requires { length tokens.now < 2 ^ 32 }
-    ensures { result ≡ l.first_limit (map token_of tokens.now) }
+    ensures value { result ≡ l.first_limit (map token_of tokens.now) }
+    ensures within { IfSome result (λ limit. limit.index < length tokens.now) }
 {
     let mut seen = Seen {
-        open: 0,
+        brackets: 0,
         declared: 0,
         operand: false,
         minus: None,
