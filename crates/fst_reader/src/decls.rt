@@ -82,7 +82,7 @@ impl<'a> Reader<'a> {
         ensures shorter { OnOk result (length self.new < length self.old) }
     {
         self.expect(Terminal::LeftBrace)?;
-        let room = self.left() + 1;
+        let room = self.room();
         let text = dm(self, room)?;
         self.expect(Terminal::RightBrace)?;
         Ok(text)
@@ -94,7 +94,7 @@ impl<'a> Reader<'a> {
         ensures shorter { OnOk result (length self.new < length self.old) }
     {
         self.expect(Terminal::LeftBrace)?;
-        let room = self.left() + 1;
+        let room = self.room();
         let body = body(self, room)?;
         self.expect(Terminal::RightBrace)?;
         Ok(body)

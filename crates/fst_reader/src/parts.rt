@@ -18,7 +18,7 @@ impl<'a> Reader<'a> {
         ensures reads { Reads (reads (n.term false) self.old) result self.new }
         ensures shorter { OnOk result (length self.new < length self.old) }
     {
-        let room = self.left() + 1;
+        let room = self.room();
         term(false, self, room)
     }
 
@@ -27,7 +27,7 @@ impl<'a> Reader<'a> {
         ensures reads { Reads (reads (n.term true) self.old) result self.new }
         ensures shorter { OnOk result (length self.new < length self.old) }
     {
-        let room = self.left() + 1;
+        let room = self.room();
         term(true, self, room)
     }
 
@@ -52,7 +52,7 @@ impl<'a> Reader<'a> {
         ensures reads { Reads (reads n.operation self.old) result self.new }
         ensures shorter { OnOk result (length self.new < length self.old) }
     {
-        let terms = Terms { formula: false, room: self.left(), term };
+        let terms = Terms { formula: false, room: self.room(), term };
         let first = terms.other(self)?;
         let tree = self.rest(first)?;
         Ok(tree)
@@ -64,7 +64,7 @@ impl<'a> Reader<'a> {
         ensures reads { Reads (given first (reads n.rest self.old)) result self.new }
         ensures no_longer { OnOk result (length self.new ≤ length self.old) }
     {
-        let terms = Terms { formula: false, room: self.left(), term };
+        let terms = Terms { formula: false, room: self.room(), term };
         let prod = terms.prod_more(self, first)?;
         let sum = terms.sum_more(self, prod)?;
         let more = terms.con_more(self)?;
@@ -95,7 +95,7 @@ impl<'a> Reader<'a> {
         match self.peek() {
             Terminal::LeftParen => {
                 self.expect(Terminal::LeftParen)?;
-                let terms = Terms { formula: false, room: self.left() + 1, term };
+                let terms = Terms { formula: false, room: self.room(), term };
                 let args = terms.args(self)?;
                 Ok(PartTree {
                     at: name.at,

@@ -1,6 +1,6 @@
 //! The tokens that are left to be read.
 
-ghost use Rattle.std.specs.Prelude.{◌≡◌, ◌<◌, [], ◌∷◌, length, OnOk};
+ghost use Rattle.std.specs.Prelude.{◌≡◌, ◌<◌, ◌+◌, [], ◌∷◌, length, OnOk};
 ghost use Rattle.fst_grammar.specs.Alphabet.{next, has};
 ghost use Rattle.fst_reader.specs.Tokens.{alphabet};
 ghost use Rattle.fst_reader.specs.Productions as n;
@@ -60,6 +60,13 @@ impl<'a> Reader<'a> {
         ensures { result ≡ length self.now }
     {
         self.rest.len()
+    }
+
+    /// More than the tokens that are left.
+    pub fn room(&self) -> usize
+        ensures { result ≡ length self.now + 1 }
+    {
+        self.rest.len() + 1
     }
 
     /// The terminal of the next token.
