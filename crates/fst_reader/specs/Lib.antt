@@ -8,3 +8,4 @@ pub mod Tables
 pub mod Reading
 pub mod Nests
 pub mod Limits
+pub mod Program

@@ -19,12 +19,14 @@ mod operators;
 mod parts;
 mod pattern;
 mod patterns;
+
 mod reader;
 mod sort;
 mod sorts;
 mod spelling;
 mod terminal;
 mod terms;
+mod whole;
 mod word;
 
 pub use body::{BodyTree, PartNode, PartTree};
@@ -32,5 +34,6 @@ pub use decl::{Decl, EffectName, EffectTree, FunTree, HeadTree, LiftTree, ParamT
 pub use definition::DmTree;
 pub use form::{Form, FormNode};
 pub use pattern::{ArmTree, ConWord};
+pub use whole::read;
 pub use sort::SortTree;
 pub use word::Word;

@@ -1,8 +1,9 @@
 //! The tokens that are left to be read.
 
-ghost use Rattle.std.specs.Prelude.{◌≡◌, ◌<◌, ◌+◌, [], ◌∷◌, length, OnOk};
+ghost use Rattle.std.specs.Prelude.{◌≡◌, ◌<◌, ◌+◌, [], ◌∷◌, length, map, OnOk};
 ghost use Rattle.fst_grammar.specs.Alphabet.{next, has};
-ghost use Rattle.fst_reader.specs.Tokens.{alphabet};
+ghost use Rattle.fst_reader.specs.Tokens.{alphabet, token_of};
+ghost use Rattle.fst_reader.specs.Program.{first_place};
 ghost use Rattle.fst_reader.specs.Productions as n;
 ghost use Rattle.fst_reader.specs.Reading.{Reads, reads, takes, words, numbers};
 ghost use Rattle.fst_reader.specs.Trees.{magnitude};
@@ -50,6 +51,26 @@ impl<'a> Model for Reader<'a> {
 }
 
 impl<'a> Reader<'a> {
+    /// A reader of these tokens.
+    pub fn new(alloc: Global, tokens: &'a [Lexeme<'a>]) -> Reader<'a>
+        ensures { result ≡ map token_of tokens.now }
+    {
+        Reader {
+            rest: tokens,
+            alloc,
+        }
+    }
+
+    /// The place of the next token, if there is one.
+    pub fn place(&self) -> Option<Pos>
+        ensures { result ≡ first_place self.now }
+    {
+        match self.rest {
+            [token, ..] => Some(Pos { at: token.at }),
+            [] => None,
+        }
+    }
+
     /// What makes the trees.
     pub fn alloc(&self) -> Global {
         self.alloc
