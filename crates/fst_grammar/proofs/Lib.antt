@@ -3,3 +3,4 @@ pub mod Complete
 pub mod Sound
 pub mod Bounded
 pub mod Claims
+pub mod Cuts

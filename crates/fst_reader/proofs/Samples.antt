@@ -3,8 +3,9 @@ use Rattle.std.proofs.Common.{ℕ, zero, suc, Bool, true, false}
 use Rattle.fst_grammar.specs.Grammar.{Rule, Code, El, token, mark, empty, seq, alt, act, call}
 use Rattle.fst_grammar.proofs.Sound as G
 use Rattle.fst_reader.specs.declared.terminal.Terminal.{Terminal}
+use Rattle.fst_reader.specs.declared.operator.Separator.{Separator}
 use Rattle.fst_reader.specs.Tokens.{alphabet}
-use Rattle.fst_reader.specs.Productions.{N, T, rule, program, decl, effect, base, two_names, three_names, lift, fun, head, needs, gives, measures, depth, measures_more, effname, params, param, refinement, sort, sort_more, sat, body, block, binding, annotation, part, after_name, rest, arms, arms_more, arm, dm, dm_block, dm_binding, dmpart, dm_after_name, dm_arms, dm_arms_more, dm_arm, pattern, term, implies_more, disj, disj_more, conj, conj_more, cmp, cmp_more, con, con_more, sum, sum_more, prod, prod_more, un, other, negated, app, solid, prefix, named, plain, inner, inner_more, args, args_more, items, items_more, comparison, sum_operator, prod_operator, prefix_operator, name, binder, number, small}
+use Rattle.fst_reader.specs.Productions.{N, T, rule, program, decl, effect, base, two_names, three_names, lift, fun, head, needs, gives, measures, depth, measures_more, terms_more, effname, params, param, hidden, refinement, sort, sort_more, sat, body, ghost_let, plain_let, assertion, branching, matching, block, binding, annotation, part, block_part, reify, reflect, named_part, after_name, operation, rest, arms, arms_more, arm, dm, dm_let, dm_branching, dm_matching, dm_block, dm_binding, dmpart, dm_named_part, dm_after_name, run_args, second, dm_arms, dm_arms_more, dm_arm, pattern, term, implies_more, disj, disj_more, conj, conj_more, cmp, cmp_more, con, con_more, sum, sum_more, prod, prod_more, un, other, negated, app, solid, prefix, named, application, plain, atom, inner, enclosed, choice, inner_more, args, items, let_in, comparison, sum_operator, prod_operator, prefix_operator, name, binder, number, small}
 use Rattle.fst_reader.specs.Tables.{firsts, nullable}
 use Rattle.fst_reader.proofs.Terminals.{kinds}
 
@@ -109,11 +110,17 @@ of_measures_more : (n : ℕ) → Has (measures_more n)
 of_measures_more zero = called (made none)
 of_measures_more (suc n) = called (right (made none))
 
+of_terms_more : (s : Separator) (f : Bool) → Has (terms_more s f)
+of_terms_more s f = called (right (made none))
+
 of_depth : Has depth
 of_depth = called (right (made none))
 
+of_hidden : Has hidden
+of_hidden = called (made (right (made none)))
+
 of_param : Has param
-of_param = called (made (both (right (made none)) (skip (both of_binder (skip (both of_sort (close of_refinement)))))))
+of_param = called (made (both of_hidden (skip (both of_binder (skip (both of_sort (close of_refinement)))))))
 
 of_params : Has params
 of_params = called (right (made none))
@@ -124,13 +131,22 @@ of_head = called (made (skip (both of_name (both of_params (skip (both of_effnam
 of_pattern : Has pattern
 of_pattern = called (left (made one))
 
+of_atom : (f : Bool) → Has (atom f)
+of_atom f = called (left (made one))
+
 of_plain : (f : Bool) → Has (plain f)
-of_plain false = called (left (made one))
+of_plain false = called (made (of_atom false))
 of_plain true = called (left (made one))
+
+of_application : (f : Bool) → Has (application f)
+of_application f = called (made (right (made none)))
+
+of_enclosed : (f : Bool) → Has (enclosed f)
+of_enclosed f = called (left (made one))
 
 of_named : (f : Bool) → Has (named f)
 of_named false = called (made of_name)
-of_named true = called (made (both of_name (right (made none))))
+of_named true = called (made (both of_name (of_application true)))
 
 of_solid : (f : Bool) → Has (solid f)
 of_solid f = called (left (made (of_named f)))
@@ -150,26 +166,26 @@ of_negated f = called (left (made of_number))
 of_other : (f : Bool) → Has (other f)
 of_other f = called (left (made (both one (of_negated f))))
 
-of_implies_more : (f : Bool) → Has (implies_more f)
-of_implies_more f = called (right (made none))
-
 of_disj_more : (f : Bool) → Has (disj_more f)
 of_disj_more f = called (right (made none))
 
 of_conj_more : (f : Bool) → Has (conj_more f)
 of_conj_more f = called (right (made none))
 
-of_cmp_more : (f : Bool) → Has (cmp_more f)
-of_cmp_more f = called (right (made none))
-
-of_con_more : (f : Bool) → Has (con_more f)
-of_con_more f = called (right (made none))
-
 of_sum_more : (f : Bool) → Has (sum_more f)
 of_sum_more f = called (right (made none))
 
 of_prod_more : (f : Bool) → Has (prod_more f)
 of_prod_more f = called (right (made none))
+
+of_implies_more : (f : Bool) → Has (implies_more f)
+of_implies_more f = called (made (right (made none)))
+
+of_cmp_more : (f : Bool) → Has (cmp_more f)
+of_cmp_more f = called (made (right (made none)))
+
+of_con_more : (f : Bool) → Has (con_more f)
+of_con_more f = called (made (right (made none)))
 
 of_prod : (f : Bool) → Has (prod f)
 of_prod f = called (made (both (of_un f) (of_prod_more f)))
@@ -192,9 +208,15 @@ of_disj f = called (made (both (of_conj f) (of_disj_more f)))
 of_term : (f : Bool) → Has (term f)
 of_term f = called (made (both (of_disj f) (of_implies_more f)))
 
+of_choice : (f : Bool) → Has (choice f)
+of_choice f = called (made (both one (both (of_term f) (skip (both (of_term f) (skip (close (of_term f))))))))
+
+of_let_in : Has let_in
+of_let_in = called (made (both one (both of_binder (skip (both (of_term true) (skip (close (of_term true))))))))
+
 of_inner : (f : Bool) → Has (inner f)
-of_inner false = called (left (made one))
-of_inner true = called (right (left (made one)))
+of_inner false = called (made (of_enclosed false))
+of_inner true = called (right (made (of_enclosed true)))
 
 of_inner_more : (f : Bool) → Has (inner_more f)
 of_inner_more f = called (left (made one))
@@ -202,14 +224,8 @@ of_inner_more f = called (left (made one))
 of_args : (f : Bool) → Has (args f)
 of_args f = called (left (made one))
 
-of_args_more : (f : Bool) → Has (args_more f)
-of_args_more f = called (right (made none))
-
 of_items : (f : Bool) → Has (items f)
 of_items f = called (left (made one))
-
-of_items_more : (f : Bool) → Has (items_more f)
-of_items_more f = called (right (made none))
 
 of_rest : Has rest
 of_rest = called (made (both (of_prod_more false) (both (of_sum_more false) (both (of_con_more false) (both (of_cmp_more false) (both (of_conj_more false) (both (of_disj_more false) (of_implies_more false))))))))
@@ -217,8 +233,14 @@ of_rest = called (made (both (of_prod_more false) (both (of_sum_more false) (bot
 of_after_name : Has after_name
 of_after_name = called (right (made of_rest))
 
+of_operation : Has operation
+of_operation = called (made (both (of_other false) of_rest))
+
+of_named_part : Has named_part
+of_named_part = called (made (both of_name of_after_name))
+
 of_part : Has part
-of_part = called (right (right (right (left (made (both of_name of_after_name))))))
+of_part = called (right (right (right (left (made of_named_part)))))
 
 of_body : Has body
 of_body = called (right (right (right (right (right (made of_part))))))
@@ -238,11 +260,44 @@ of_arms_more = called (right (made none))
 of_arms : Has arms
 of_arms = called (made (both of_arm of_arms_more))
 
+of_ghost_let : Has ghost_let
+of_ghost_let = called (made (skip (skip (both of_binding of_body))))
+
+of_plain_let : Has plain_let
+of_plain_let = called (made (skip (both of_binding of_body)))
+
+of_assertion : Has assertion
+of_assertion = called (made (both one (both (of_term true) (skip of_body))))
+
+of_branching : Has branching
+of_branching = called (made (skip (both (of_term false) (skip (both of_body (skip of_body))))))
+
+of_matching : Has matching
+of_matching = called (made (both one (both (of_term false) (skip (close of_arms)))))
+
+of_block_part : Has block_part
+of_block_part = called (made (both one (close of_body)))
+
+of_reify : Has reify
+of_reify = called (made (both one (both of_name (both of_sort (both of_block (skip (close (of_term false))))))))
+
+of_reflect : Has reflect
+of_reflect = called (made (both one (both of_name (both of_sort (skip (both of_binder (skip of_block)))))))
+
 of_dm_after_name : Has dm_after_name
 of_dm_after_name = called (right (made of_rest))
 
+of_second : Has second
+of_second = called (made (right (made none)))
+
+of_run_args : Has run_args
+of_run_args = called (made (both (of_term false) (close of_second)))
+
+of_dm_named_part : Has dm_named_part
+of_dm_named_part = called (made (both of_name of_dm_after_name))
+
 of_dmpart : Has dmpart
-of_dmpart = called (right (left (made (both of_name of_dm_after_name))))
+of_dmpart = called (right (left (made of_dm_named_part)))
 
 of_dm : Has dm
 of_dm = called (right (right (right (made of_dmpart))))
@@ -261,6 +316,15 @@ of_dm_arms_more = called (right (made none))
 
 of_dm_arms : Has dm_arms
 of_dm_arms = called (made (both of_dm_arm of_dm_arms_more))
+
+of_dm_let : Has dm_let
+of_dm_let = called (made (skip (both of_dm_binding of_dm)))
+
+of_dm_branching : Has dm_branching
+of_dm_branching = called (made (skip (both (of_term false) (skip (both of_dm (skip of_dm))))))
+
+of_dm_matching : Has dm_matching
+of_dm_matching = called (made (both one (both (of_term false) (skip (close of_dm_arms)))))
 
 of_effect : Has effect
 of_effect = called (made (skip (both of_name (skip (both of_base (skip (both of_sort (skip (both of_sort (skip (both of_two_names (both of_dm_block (skip (both of_three_names of_dm_block))))))))))))))
@@ -291,29 +355,47 @@ sample needs = of_needs
 sample gives = of_gives
 sample measures = of_measures
 sample (measures_more n) = of_measures_more n
+sample (terms_more s f) = of_terms_more s f
 sample depth = of_depth
 sample effname = of_effname
 sample params = of_params
 sample param = of_param
+sample hidden = of_hidden
 sample refinement = of_refinement
 sample sort = of_sort
 sample sort_more = of_sort_more
 sample sat = of_sat
 sample body = of_body
+sample ghost_let = of_ghost_let
+sample plain_let = of_plain_let
+sample assertion = of_assertion
+sample branching = of_branching
+sample matching = of_matching
 sample block = of_block
 sample binding = of_binding
 sample annotation = of_annotation
 sample part = of_part
+sample block_part = of_block_part
+sample reify = of_reify
+sample reflect = of_reflect
+sample named_part = of_named_part
 sample after_name = of_after_name
+sample operation = of_operation
 sample rest = of_rest
 sample arms = of_arms
 sample arms_more = of_arms_more
 sample arm = of_arm
 sample dm = of_dm
+sample dm_let = of_dm_let
+sample dm_branching = of_dm_branching
+sample dm_matching = of_dm_matching
 sample dm_block = of_dm_block
 sample dm_binding = of_dm_binding
 sample dmpart = of_dmpart
+sample dm_named_part = of_dm_named_part
 sample dm_after_name = of_dm_after_name
+sample run_args = of_run_args
+sample second = of_second
 sample dm_arms = of_dm_arms
 sample dm_arms_more = of_dm_arms_more
 sample dm_arm = of_dm_arm
@@ -339,13 +421,16 @@ sample (app f) = of_app f
 sample (solid f) = of_solid f
 sample (prefix f) = of_prefix f
 sample (named f) = of_named f
+sample (application f) = of_application f
 sample (plain f) = of_plain f
+sample (atom f) = of_atom f
 sample (inner f) = of_inner f
+sample (enclosed f) = of_enclosed f
+sample (choice f) = of_choice f
 sample (inner_more f) = of_inner_more f
 sample (args f) = of_args f
-sample (args_more f) = of_args_more f
 sample (items f) = of_items f
-sample (items_more f) = of_items_more f
+sample let_in = of_let_in
 sample comparison = of_comparison
 sample sum_operator = of_sum_operator
 sample prod_operator = of_prod_operator

@@ -1,5 +1,11 @@
 pub mod Tokens
+pub mod Spelling
+pub mod Lexemes
+pub mod Separators
 pub mod Trees
 pub mod Productions
 pub mod Tables
 pub mod Reading
+pub mod Nests
+pub mod Limits
+pub mod Program

@@ -15,6 +15,9 @@ use Rattle.fst_reader.specs.declared.operator.Operator.{Operator}
 use Rattle.fst_reader.specs.declared.operator.Comparison.{Comparison}
 use Rattle.fst_reader.specs.declared.operator.Relation.TheVariants as L
 use Rattle.fst_reader.specs.declared.operator.Digits.{Digits}
+use Rattle.fst_reader.specs.declared.operator.Separator.{Separator}
+use Rattle.fst_reader.specs.declared.operator.Separator.TheVariants as X
+use Rattle.fst_reader.specs.Separators.{separator}
 use Rattle.fst_reader.specs.declared.pattern.ArmTree.{ArmTree}
 use Rattle.fst_reader.specs.declared.pattern.Pattern.{Pattern}
 use Rattle.fst_reader.specs.declared.pattern.ConWord.TheVariants as C
@@ -46,16 +49,18 @@ pub data N : Type 0 where
   effect base two_names three_names lift : N
   fun head needs gives measures depth : N
   measures_more : ℕ → N
-  effname params param refinement : N
+  effname params param hidden refinement : N
   sort sort_more sat : N
-  body block binding annotation part after_name rest : N
+  body ghost_let plain_let assertion branching matching block binding annotation : N
+  part block_part reify reflect named_part after_name operation rest : N
   arms arms_more arm : N
-  dm dm_block dm_binding dmpart dm_after_name : N
+  dm dm_let dm_branching dm_matching dm_block dm_binding dmpart dm_named_part dm_after_name run_args second : N
   dm_arms dm_arms_more dm_arm : N
   pattern : N
   term implies_more disj disj_more conj conj_more cmp cmp_more con con_more sum sum_more prod prod_more : Bool → N
-  un other negated app solid prefix named plain inner inner_more args args_more items items_more : Bool → N
-  comparison sum_operator prod_operator prefix_operator : N
+  un other negated app solid prefix named application plain atom inner enclosed choice inner_more args items : Bool → N
+  terms_more : Separator → Bool → N
+  let_in comparison sum_operator prod_operator prefix_operator : N
   name binder number small : N
 
 -- what each gives
@@ -77,15 +82,26 @@ T depth = ℕ
 T effname = EffectName Word
 T params = List (ParamTree Word)
 T param = ParamTree Word
+T hidden = Bool
 T refinement = Option Tree
 T sort = SortTree Word
 T sat = SortTree Word
 T sort_more = Option (SortTree Word)
 T body = BodyTree Word
 T block = BodyTree Word
+T ghost_let = BodyTree Word
+T plain_let = BodyTree Word
+T assertion = BodyTree Word
+T branching = BodyTree Word
+T matching = BodyTree Word
+T block_part = PartTree Word
+T reify = PartTree Word
+T reflect = PartTree Word
 T binding = Binding (PartTree Word)
 T annotation = Option (SortTree Word)
 T part = PartTree Word
+T named_part = PartTree Word
+T operation = Tree
 T after_name = Word → PartTree Word
 T rest = Tree → Tree
 T arms = List (ArmTree (BodyTree Word))
@@ -93,27 +109,34 @@ T arms_more = List (ArmTree (BodyTree Word))
 T arm = ArmTree (BodyTree Word)
 T dm = DmTree Word
 T dm_block = DmTree Word
+T dm_let = DmTree Word
+T dm_branching = DmTree Word
+T dm_matching = DmTree Word
 T dm_binding = Binding (DmTree Word)
 T dmpart = DmTree Word
+T dm_named_part = DmTree Word
+T run_args = List Tree
+T second = Option Tree
 T dm_after_name = Word → DmTree Word
 T dm_arms = List (ArmTree (DmTree Word))
 T dm_arms_more = List (ArmTree (DmTree Word))
 T dm_arm = ArmTree (DmTree Word)
 T pattern = Pattern
-T (implies_more f) = Tree → Tree
+T (implies_more f) = Option (Pos × Tree)
 T (disj_more f) = Tree → Tree
 T (conj_more f) = Tree → Tree
-T (cmp_more f) = Tree → Tree
-T (con_more f) = Tree → Tree
+T (cmp_more f) = Option (Comparison × Tree)
+T (con_more f) = Option (Pos × Tree)
 T (sum_more f) = Tree → Tree
 T (prod_more f) = Tree → Tree
 T (negated f) = Pos → Tree
 T (inner f) = Pos → Tree
+T (enclosed f) = Pos → Tree
 T (inner_more f) = Tree → Pos → Tree
+T (application f) = Option (List Tree)
 T (args f) = List Tree
-T (args_more f) = List Tree
+T (terms_more s f) = List Tree
 T (items f) = List Tree
-T (items_more f) = List Tree
 T comparison = Comparison
 T sum_operator = Operator
 T prod_operator = Operator
@@ -136,6 +159,9 @@ T (solid f) = Tree
 T (prefix f) = Tree
 T (named f) = Tree
 T (plain f) = Tree
+T (atom f) = Tree
+T (choice f) = Tree
+T let_in = Tree
 
 abbrev pub R : Code alphabet N T → Type 0
 R = Rule alphabet N T
@@ -177,27 +203,10 @@ product s (Some q) = S.Pair s q
 abbrev pub term_part : Tree → PartTree Word
 term_part a = record { at = a.at; node = P.Term a }
 
-abbrev pub in_call : Word → Option (List Tree) → Tree
-in_call w None = t.ident w
-in_call w (Some arguments) = t.applied w arguments
-
 -- the one or two terms that a definition's text runs a computation on
 abbrev pub one_or_two : Tree → Option Tree → List Tree
 one_or_two a None = a ∷ []
 one_or_two a (Some b) = a ∷ b ∷ []
-
--- 'true' | 'false' | 'none' | '(' .. | '[' .. ; this and the rows of `inner` that terms and formulas share
-abbrev pub atom_rows : (f : Bool) → R (tree (plain f))
-atom_rows f = (λ p. t.truth true p) ⇐ mark k.True
-    ∣ (λ p. t.truth false p) ⇐ mark k.False
-    ∣ (λ p. t.nullary op.Nothing p) ⇐ mark k.None
-    ∣ (λ p. p.1 p.0) ⇐ mark k.LeftParen ⋅ call (inner f)
-    ∣ (λ p. t.listed p.0 p.1) ⇐ mark k.LeftBracket ⋅ call (items f)
-
-abbrev pub inner_rows : (f : Bool) → R (tree (inner f))
-inner_rows f = (λ _ p. t.unit p) ⇐ mark k.RightParen
-    ∣ (λ p _. t.choice p.0 p.1.0 p.1.1.0 p.1.1.1) ⇐ mark k.If ⋅ call (term f) ⋅ k.Then ▸ call (term f) ⋅ k.Else ▸ call (term f) ◂ k.RightParen
-    ∣ (λ p at. p.1 p.0 at) ⇐ call (term f) ⋅ call (inner_more f)
 
 abbrev pub rule : (n : N) → R (tree n)
 rule program = (λ p. p.0 ∷ p.1) ⇐ call decl ⋅ call program
@@ -236,8 +245,9 @@ rule effname = (λ _. E.Pure) ⇐ mark k.PureEffect
     ∣ E.User ⇐ call name
 rule params = (λ p. p.0 ∷ p.1) ⇐ call param ⋅ call params
     ∣ (λ _. []) ⇐ empty
-rule param = (λ p. record { hidden = t.is_there p.0; name = p.1.0; sort = p.1.1.0; refine = p.1.1.1 })
-    ⇐ optional (mark k.Ghost) ⋅ k.LeftParen ▸ call binder ⋅ k.Colon ▸ call sort ⋅ call refinement ◂ k.RightParen
+rule param = (λ p. record { hidden = p.0; name = p.1.0; sort = p.1.1.0; refine = p.1.1.1 })
+    ⇐ call hidden ⋅ k.LeftParen ▸ call binder ⋅ k.Colon ▸ call sort ⋅ call refinement ◂ k.RightParen
+rule hidden = t.is_there ⇐ optional (mark k.Ghost)
 rule refinement = (λ a. a) ⇐ optional (k.LeftBrace ▸ call (term true) ◂ k.RightBrace)
 
 rule sort = (λ p. product p.0 p.1) ⇐ call sat ⋅ call sort_more
@@ -251,27 +261,37 @@ rule sat = (λ _. S.Unit) ⇐ mark k.Unit
     ∣ S.Ident ⇐ call name
     ∣ (λ s. s) ⇐ k.LeftParen ▸ call sort ◂ k.RightParen
 
-rule body = (λ p. B.GhostLet p.0.name p.0.sort p.0.part p.1) ⇐ k.Ghost ▸ k.Let ▸ call binding ⋅ call body
-    ∣ (λ p. B.Let p.0.name p.0.sort p.0.part p.1) ⇐ k.Let ▸ call binding ⋅ call body
-    ∣ (λ p. B.Assert p.1.0 p.0 p.1.1) ⇐ mark k.Assert ⋅ call (term true) ⋅ k.Semicolon ▸ call body
-    ∣ (λ p. B.If p.0 p.1.0 p.1.1) ⇐ k.If ▸ call (term false) ⋅ k.Then ▸ call body ⋅ k.Else ▸ call body
-    ∣ (λ p. B.Match p.1.0 p.0 p.1.1) ⇐ mark k.Match ⋅ call (term false) ⋅ k.With ▸ call arms ◂ k.EndWord
+rule body = (λ a. a) ⇐ call ghost_let
+    ∣ (λ a. a) ⇐ call plain_let
+    ∣ (λ a. a) ⇐ call assertion
+    ∣ (λ a. a) ⇐ call branching
+    ∣ (λ a. a) ⇐ call matching
     ∣ B.Part ⇐ call part
+rule ghost_let = (λ p. B.GhostLet p.0.name p.0.sort p.0.part p.1) ⇐ k.Ghost ▸ k.Let ▸ call binding ⋅ call body
+rule plain_let = (λ p. B.Let p.0.name p.0.sort p.0.part p.1) ⇐ k.Let ▸ call binding ⋅ call body
+rule assertion = (λ p. B.Assert p.1.0 p.0 p.1.1) ⇐ mark k.Assert ⋅ call (term true) ⋅ k.Semicolon ▸ call body
+rule branching = (λ p. B.If p.0 p.1.0 p.1.1) ⇐ k.If ▸ call (term false) ⋅ k.Then ▸ call body ⋅ k.Else ▸ call body
+rule matching = (λ p. B.Match p.1.0 p.0 p.1.1) ⇐ mark k.Match ⋅ call (term false) ⋅ k.With ▸ call arms ◂ k.EndWord
 rule block = (λ a. a) ⇐ k.LeftBrace ▸ call body ◂ k.RightBrace
 rule binding = (λ p. record { name = p.0; sort = p.1.0; part = p.1.1 }) ⇐ call binder ⋅ call annotation ⋅ k.Equal ▸ call part ◂ k.In
 rule annotation = (λ a. a) ⇐ optional (k.Colon ▸ call sort)
 
 -- NAME '(' [term {',' term}] ')' and the terms that begin with a NAME are the fourth row: the token after the NAME settles
 -- which. Other terms are the fifth.
-rule part = (λ p. record { at = p.0; node = P.Block p.1 }) ⇐ mark k.LeftBrace ⋅ call body ◂ k.RightBrace
-    ∣ (λ p. record { at = p.0; node = P.Reify p.1.0 p.1.1.0 p.1.1.1.0 p.1.1.1.1 }) ⇐ mark k.Reify ⋅ call name ⋅ call sort ⋅ call block ⋅ k.LeftParen ▸ call (term false) ◂ k.RightParen
-    ∣ (λ p. record { at = p.0; node = P.Reflect p.1.0 p.1.1.0 p.1.1.1.0 p.1.1.1.1 }) ⇐ mark k.Reflect ⋅ call name ⋅ call sort ⋅ k.LeftParen ▸ call binder ⋅ k.RightParen ▸ call block
-    ∣ (λ p. p.1 p.0) ⇐ call name ⋅ call after_name
-    ∣ (λ p. term_part (p.1 p.0)) ⇐ call (other false) ⋅ call rest
+rule part = (λ a. a) ⇐ call block_part
+    ∣ (λ a. a) ⇐ call reify
+    ∣ (λ a. a) ⇐ call reflect
+    ∣ (λ a. a) ⇐ call named_part
+    ∣ term_part ⇐ call operation
+rule block_part = (λ p. record { at = p.0; node = P.Block p.1 }) ⇐ mark k.LeftBrace ⋅ call body ◂ k.RightBrace
+rule reify = (λ p. record { at = p.0; node = P.Reify p.1.0 p.1.1.0 p.1.1.1.0 p.1.1.1.1 }) ⇐ mark k.Reify ⋅ call name ⋅ call sort ⋅ call block ⋅ k.LeftParen ▸ call (term false) ◂ k.RightParen
+rule reflect = (λ p. record { at = p.0; node = P.Reflect p.1.0 p.1.1.0 p.1.1.1.0 p.1.1.1.1 }) ⇐ mark k.Reflect ⋅ call name ⋅ call sort ⋅ k.LeftParen ▸ call binder ⋅ k.RightParen ▸ call block
+rule named_part = (λ p. p.1 p.0) ⇐ call name ⋅ call after_name
 rule after_name = (λ arguments w. record { at = w.at; node = P.Call w arguments }) ⇐ k.LeftParen ▸ call (args false)
     ∣ (λ more w. term_part (more (t.ident w))) ⇐ call rest
+rule operation = (λ p. p.1 p.0) ⇐ call (other false) ⋅ call rest
 -- what may follow the first operand of a term
-rule rest = (λ p a. p.1.1.1.1.1.1 (p.1.1.1.1.1.0 (p.1.1.1.1.0 (p.1.1.1.0 (p.1.1.0 (p.1.0 (p.0 a)))))))
+rule rest = (λ p a. t.implied_by (p.1.1.1.1.1.0 (p.1.1.1.1.0 (t.compared_by (t.cons_by (p.1.0 (p.0 a)) p.1.1.0) p.1.1.1.0))) p.1.1.1.1.1.1)
     ⇐ call (prod_more false) ⋅ call (sum_more false) ⋅ call (con_more false) ⋅ call (cmp_more false) ⋅ call (conj_more false) ⋅ call (disj_more false) ⋅ call (implies_more false)
 
 rule arms = (λ p. p.0 ∷ p.1) ⇐ call arm ⋅ call arms_more
@@ -279,19 +299,25 @@ rule arms_more = (λ p. p.0 ∷ p.1) ⇐ call arm ⋅ call arms_more
     ∣ (λ _. []) ⇐ empty
 rule arm = (λ p. record { at = p.0.at; con = p.0.con; names = p.0.names; body = p.1 }) ⇐ k.Bar ▸ call pattern ⋅ k.Arrow ▸ call body
 
-rule dm = (λ p. D.Let p.0.name p.0.sort p.0.part p.1) ⇐ k.Let ▸ call dm_binding ⋅ call dm
-    ∣ (λ p. D.If p.0 p.1.0 p.1.1) ⇐ k.If ▸ call (term false) ⋅ k.Then ▸ call dm ⋅ k.Else ▸ call dm
-    ∣ (λ p. D.Match p.1.0 p.0 p.1.1) ⇐ mark k.Match ⋅ call (term false) ⋅ k.With ▸ call dm_arms ◂ k.EndWord
+rule dm = (λ a. a) ⇐ call dm_let
+    ∣ (λ a. a) ⇐ call dm_branching
+    ∣ (λ a. a) ⇐ call dm_matching
     ∣ (λ a. a) ⇐ call dmpart
+rule dm_let = (λ p. D.Let p.0.name p.0.sort p.0.part p.1) ⇐ k.Let ▸ call dm_binding ⋅ call dm
+rule dm_branching = (λ p. D.If p.0 p.1.0 p.1.1) ⇐ k.If ▸ call (term false) ⋅ k.Then ▸ call dm ⋅ k.Else ▸ call dm
+rule dm_matching = (λ p. D.Match p.1.0 p.0 p.1.1) ⇐ mark k.Match ⋅ call (term false) ⋅ k.With ▸ call dm_arms ◂ k.EndWord
 rule dm_block = (λ a. a) ⇐ k.LeftBrace ▸ call dm ◂ k.RightBrace
 rule dm_binding = (λ p. record { name = p.0; sort = p.1.0; part = p.1.1 }) ⇐ call binder ⋅ call annotation ⋅ k.Equal ▸ call dmpart ◂ k.In
 
 -- NAME '(' term ')', NAME '(' term ',' term ')' and the terms that begin with a NAME are the second row, other terms the third.
 rule dmpart = (λ p. D.Block p.0 p.1) ⇐ mark k.LeftBrace ⋅ call dm ◂ k.RightBrace
-    ∣ (λ p. p.1 p.0) ⇐ call name ⋅ call dm_after_name
-    ∣ (λ p. D.Term (p.1 p.0)) ⇐ call (other false) ⋅ call rest
-rule dm_after_name = (λ p w. D.Run w (one_or_two p.0 p.1)) ⇐ k.LeftParen ▸ call (term false) ⋅ optional (k.Comma ▸ call (term false)) ◂ k.RightParen
+    ∣ (λ a. a) ⇐ call dm_named_part
+    ∣ D.Term ⇐ call operation
+rule dm_named_part = (λ p. p.1 p.0) ⇐ call name ⋅ call dm_after_name
+rule dm_after_name = (λ arguments w. D.Run w arguments) ⇐ k.LeftParen ▸ call run_args
     ∣ (λ more w. D.Term (more (t.ident w))) ⇐ call rest
+rule run_args = (λ p. one_or_two p.0 p.1) ⇐ call (term false) ⋅ call second ◂ k.RightParen
+rule second = (λ a. a) ⇐ optional (k.Comma ▸ call (term false))
 rule dm_arms = (λ p. p.0 ∷ p.1) ⇐ call dm_arm ⋅ call dm_arms_more
 rule dm_arms_more = (λ p. p.0 ∷ p.1) ⇐ call dm_arm ⋅ call dm_arms_more
     ∣ (λ _. []) ⇐ empty
@@ -308,27 +334,24 @@ rule pattern = (λ p. record { at = p; con = C.True; names = [] }) ⇐ mark k.Tr
     ∣ (λ p. record { at = p.0; con = C.Pair; names = p.1.0 ∷ p.1.1 ∷ [] }) ⇐ mark k.LeftParen ⋅ call binder ⋅ k.Comma ▸ call binder ◂ k.RightParen
 
 -- Terms at false, formulas at true. Chains of || && + - * / % nest to the left, ==> and :: to the right.
-rule (term f) = (λ p. p.1 p.0) ⇐ call (disj f) ⋅ call (implies_more f)
-rule (implies_more f) = (λ p a. t.implied p.0 a p.1) ⇐ mark k.Implies ⋅ call (term f)
-    ∣ (λ _ a. a) ⇐ empty
+rule (term f) = (λ p. t.implied_by p.0 p.1) ⇐ call (disj f) ⋅ call (implies_more f)
+rule (implies_more f) = (λ a. a) ⇐ optional (mark k.Implies ⋅ call (term f))
 rule (disj f) = (λ p. p.1 p.0) ⇐ call (conj f) ⋅ call (disj_more f)
 rule (disj_more f) = (λ p a. p.1.1 (t.either p.0 a p.1.0)) ⇐ mark k.BarBar ⋅ call (conj f) ⋅ call (disj_more f)
     ∣ (λ _ a. a) ⇐ empty
 rule (conj f) = (λ p. p.1 p.0) ⇐ call (cmp f) ⋅ call (conj_more f)
 rule (conj_more f) = (λ p a. p.1.1 (t.both p.0 a p.1.0)) ⇐ mark k.AmpAmp ⋅ call (cmp f) ⋅ call (conj_more f)
     ∣ (λ _ a. a) ⇐ empty
-rule (cmp f) = (λ p. p.1 p.0) ⇐ call (con f) ⋅ call (cmp_more f)
-rule (cmp_more f) = (λ p a. t.compared p.0 a p.1) ⇐ call comparison ⋅ call (con f)
-    ∣ (λ _ a. a) ⇐ empty
+rule (cmp f) = (λ p. t.compared_by p.0 p.1) ⇐ call (con f) ⋅ call (cmp_more f)
+rule (cmp_more f) = (λ a. a) ⇐ optional (call comparison ⋅ call (con f))
 rule comparison = (λ p. record { relation = L.Equal; at = p }) ⇐ mark k.Equal
     ∣ (λ p. record { relation = L.NotEqual; at = p }) ⇐ mark k.NotEqual
     ∣ (λ p. record { relation = L.LessEqual; at = p }) ⇐ mark k.LessEqual
     ∣ (λ p. record { relation = L.Less; at = p }) ⇐ mark k.Less
     ∣ (λ p. record { relation = L.GreaterEqual; at = p }) ⇐ mark k.GreaterEqual
     ∣ (λ p. record { relation = L.Greater; at = p }) ⇐ mark k.Greater
-rule (con f) = (λ p. p.1 p.0) ⇐ call (sum f) ⋅ call (con_more f)
-rule (con_more f) = (λ p a. t.binary op.Cons p.0 a p.1) ⇐ mark k.ColonColon ⋅ call (con f)
-    ∣ (λ _ a. a) ⇐ empty
+rule (con f) = (λ p. t.cons_by p.0 p.1) ⇐ call (sum f) ⋅ call (con_more f)
+rule (con_more f) = (λ a. a) ⇐ optional (mark k.ColonColon ⋅ call (con f))
 rule (sum f) = (λ p. p.1 p.0) ⇐ call (prod f) ⋅ call (sum_more f)
 rule (sum_more f) = (λ p a. p.1.1 (t.operated p.0 a p.1.0)) ⇐ call sum_operator ⋅ call (prod f) ⋅ call (sum_more f)
     ∣ (λ _ a. a) ⇐ empty
@@ -369,27 +392,35 @@ rule prefix_operator = (λ p. record { op = op.Fst; at = p }) ⇐ mark k.Fst
     ∣ (λ p. record { op = op.Len; at = p }) ⇐ mark k.Len
 -- NAME, and in a formula NAME '(' [form {',' form}] ')'
 rule (named false) = t.ident ⇐ call name
-rule (named true) = (λ p. in_call p.0 p.1) ⇐ call name ⋅ optional (k.LeftParen ▸ call (args true))
+rule (named true) = (λ p. t.applied_to p.0 p.1) ⇐ call name ⋅ call (application true)
+rule (application f) = (λ a. a) ⇐ optional (k.LeftParen ▸ call (args f))
 -- the words `result` and `input` are used as names in formulas
-rule (plain false) = atom_rows false
+rule (plain false) = (λ a. a) ⇐ call (atom false)
 rule (plain true) = (λ p. t.ident (t.the_word t.result_text p)) ⇐ mark k.Result
     ∣ (λ p. t.ident (t.the_word t.input_text p)) ⇐ mark k.Input
-    ∣ atom_rows true
+    ∣ (λ a. a) ⇐ call (atom true)
+rule (atom f) = (λ p. t.truth true p) ⇐ mark k.True
+    ∣ (λ p. t.truth false p) ⇐ mark k.False
+    ∣ (λ p. t.nullary op.Nothing p) ⇐ mark k.None
+    ∣ (λ p. p.1 p.0) ⇐ mark k.LeftParen ⋅ call (inner f)
+    ∣ (λ p. t.listed p.0 p.1) ⇐ mark k.LeftBracket ⋅ call (items f)
 -- what follows '(': ')' | 'if' .. ')' | term ')' | term ',' term ')', and in a formula 'let' NAME '=' form 'in' form ')'
-rule (inner false) = inner_rows false
-rule (inner true) = (λ p _. t.let_in p.0 p.1.0 p.1.1.0 p.1.1.1) ⇐ mark k.Let ⋅ call binder ⋅ k.Equal ▸ call (term true) ⋅ k.In ▸ call (term true) ◂ k.RightParen
-    ∣ inner_rows true
+rule (inner false) = (λ a. a) ⇐ call (enclosed false)
+rule (inner true) = (λ a _. a) ⇐ call let_in
+    ∣ (λ a. a) ⇐ call (enclosed true)
+rule (enclosed f) = (λ _ p. t.unit p) ⇐ mark k.RightParen
+    ∣ (λ a _. a) ⇐ call (choice f)
+    ∣ (λ p at. p.1 p.0 at) ⇐ call (term f) ⋅ call (inner_more f)
+rule (choice f) = (λ p. t.choice p.0 p.1.0 p.1.1.0 p.1.1.1) ⇐ mark k.If ⋅ call (term f) ⋅ k.Then ▸ call (term f) ⋅ k.Else ▸ call (term f) ◂ k.RightParen
+rule let_in = (λ p. t.let_in p.0 p.1.0 p.1.1.0 p.1.1.1) ⇐ mark k.Let ⋅ call binder ⋅ k.Equal ▸ call (term true) ⋅ k.In ▸ call (term true) ◂ k.RightParen
 rule (inner_more f) = (λ _ a _. a) ⇐ mark k.RightParen
     ∣ (λ b a p. t.binary op.Pair p a b) ⇐ k.Comma ▸ call (term f) ◂ k.RightParen
--- what follows the '(' of a call
+-- what follows the '(' of a call, and what follows a '['
 rule (args f) = (λ _. []) ⇐ mark k.RightParen
-    ∣ (λ p. p.0 ∷ p.1) ⇐ call (term f) ⋅ call (args_more f) ◂ k.RightParen
-rule (args_more f) = (λ p. p.0 ∷ p.1) ⇐ k.Comma ▸ call (term f) ⋅ call (args_more f)
-    ∣ (λ _. []) ⇐ empty
--- what follows a '['
+    ∣ (λ p. p.0 ∷ p.1) ⇐ call (term f) ⋅ call (terms_more X.Comma f) ◂ k.RightParen
 rule (items f) = (λ _. []) ⇐ mark k.RightBracket
-    ∣ (λ p. p.0 ∷ p.1) ⇐ call (term f) ⋅ call (items_more f) ◂ k.RightBracket
-rule (items_more f) = (λ p. p.0 ∷ p.1) ⇐ k.Semicolon ▸ call (term f) ⋅ call (items_more f)
+    ∣ (λ p. p.0 ∷ p.1) ⇐ call (term f) ⋅ call (terms_more X.Semicolon f) ◂ k.RightBracket
+rule (terms_more s f) = (λ p. p.0 ∷ p.1) ⇐ separator s ▸ call (term f) ⋅ call (terms_more s f)
     ∣ (λ _. []) ⇐ empty
 
 rule name = word ⇐ token k.Name
@@ -399,4 +430,4 @@ rule binder = word ⇐ token k.Name
 rule number = digits ⇐ token k.Small
     ∣ digits ⇐ token k.Number
 -- a number from 0 to 4
-rule small = (λ u. min (t.decimal u.text) 4) ⇐ token k.Small
+rule small = (λ u. min (t.magnitude u.text) 4) ⇐ token k.Small

@@ -5,6 +5,7 @@ use Rattle.fst_reader.specs.contracts.terminal.Terminal.{the_type}
 use Rattle.fst_reader.specs.declared.terminal.Terminal.{Terminal}
 use Rattle.fst_reader.specs.declared.terminal.Terminal.TheVariants as k
 use Rattle.fst_reader.specs.declared.lexeme.Lexeme.{Lexeme}
+use Rattle.fst_reader.specs.Spelling.{spelling}
 use Rattle.fst_base.specs.declared.place.Pos.{Pos}
 use Rattle.fst_grammar.specs.Alphabet.{Alphabet}
 
@@ -16,9 +17,6 @@ pub record Token : Type 0 where
 
 abbrev pub token_of : Lexeme → Token
 token_of l = record { terminal = l.terminal; at = l.at; text = l.text.now }
-
-abbrev pub spelling : Terminal → List ℕ
-spelling _ = []
 
 abbrev pub alphabet : Alphabet
 alphabet = record {

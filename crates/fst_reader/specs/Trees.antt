@@ -17,9 +17,9 @@ use Rattle.fst_reader.specs.declared.operator.Relation.TheVariants as r
 abbrev pub decimal : List ℕ → ℕ
 decimal digits = fold (λ n digit. n * 10 + (digit - 48)) 0 digits
 
--- The least number past 128 bits stands for all: a text with such a literal is refused.
+-- 2^127 + 1 stands for all that are greater: a text with such a literal is refused.
 abbrev pub magnitude : List ℕ → ℕ
-magnitude digits = min (decimal digits) (2 ^ 127)
+magnitude digits = min (decimal digits) (2 ^ 127 + 1)
 
 abbrev pub Tree : Type 0
 Tree = Form Word
@@ -41,7 +41,7 @@ abbrev pub literal : Pos → ℕ → Tree
 literal p n = node p (f.Int (pos (min n (2 ^ 127 - 1))))
 
 abbrev pub negative : Pos → ℕ → Tree
-negative p n = node p (f.Int (neg_ℤ (pos n)))
+negative p n = node p (f.Int (neg_ℤ (pos (min n (2 ^ 127)))))
 
 abbrev pub nullary : Op → Pos → Tree
 nullary o p = node p (f.Prim o [])
@@ -92,6 +92,24 @@ compared c a b = elim c.relation [
   | r.GreaterEqual ↦ binary op.Le c.at b a
   | r.Greater ↦ binary op.Lt c.at b a
 ]
+
+-- a first operand with what follows it
+abbrev pub implied_by : Tree → Option (Pos × Tree) → Tree
+implied_by a None = a
+implied_by a (Some p) = implied p.0 a p.1
+
+abbrev pub compared_by : Tree → Option (Comparison × Tree) → Tree
+compared_by a None = a
+compared_by a (Some p) = compared p.0 a p.1
+
+abbrev pub cons_by : Tree → Option (Pos × Tree) → Tree
+cons_by a None = a
+cons_by a (Some p) = binary op.Cons p.0 a p.1
+
+-- a name, and a function's name with its arguments
+abbrev pub applied_to : Word → Option (List Tree) → Tree
+applied_to w None = ident w
+applied_to w (Some args) = applied w args
 
 abbrev pub operated : Operator → Tree → Tree → Tree
 operated o a b = binary o.op o.at a b

@@ -1,4 +1,17 @@
+//! The tokens of a text as the grammar sees them.
+
+ghost use Rattle.std.specs.Prelude.{◌≡◌, ◌<◌, ◌+◌, ◌^◌, length, map, [], IfOk};
+ghost use Rattle.fst_text.specs.Scans.{IsTokenOf, token_text};
+ghost use Rattle.fst_reader.specs.Tokens.{token_of};
+ghost use Rattle.fst_reader.specs.Lexemes.{terminal_of, lexed, lexemes};
+
+use crate::reader::magnitude;
+use crate::spelling::spelled_by;
 use crate::terminal::Terminal;
+use fst_text::{Kind, Scanner, Token};
+use fst_base::OutOfMemory;
+use std::alloc::Global;
+use std::str::from_utf8;
 
 /// A token with its terminal, its place and its text.
 #[derive(Clone, Copy, Debug)]
@@ -6,4 +19,79 @@ pub struct Lexeme<'a> {
     pub terminal: Terminal,
     pub at: u32,
     pub text: &'a str,
+}
+
+fn terminal_of(kind: Kind, text: &str) -> Terminal
+    ensures { result ≡ terminal_of kind text.now }
+{
+    match kind {
+        Kind::Word => spelled_by(text.as_bytes()),
+        Kind::Mark => spelled_by(text.as_bytes()),
+        Kind::Number => {
+            if magnitude(text) <= 4 {
+                Terminal::Small
+            } else {
+                Terminal::Number
+            }
+        }
+        Kind::Ident => {
+            if text == "_" {
+                Terminal::Hole
+            } else {
+                Terminal::Name
+            }
+        }
+    }
+}
+
+/// The text of a token, which is UTF-8.
+fn text_of<'a>(bytes: &'a [u8], token: Token) -> &'a str
+    requires { IsTokenOf bytes.now token }
+    ensures { result.now ≡ token_text bytes.now token }
+{
+    match from_utf8(&bytes[token.from as usize..token.to as usize]) {
+        Ok(text) => text,
+        Err(_) => "",
+    }
+}
+
+fn lexed<'a>(bytes: &'a [u8], token: Token) -> Lexeme<'a>
+    requires { IsTokenOf bytes.now token }
+    ensures { token_of result ≡ lexed bytes.now token }
+{
+    let text = text_of(bytes, token);
+    Lexeme {
+        terminal: terminal_of(token.kind, text),
+        at: token.from,
+        text,
+    }
+}
+
+/// The tokens of the text, and at their end the byte that begins none, if there is one.
+pub fn lexemes<'a>(alloc: Global, bytes: &'a [u8]) -> Result<Vec<Lexeme<'a>>, OutOfMemory>
+    requires { length bytes.now + 1 < 2 ^ 32 }
+    ensures { IfOk result (λ found. map token_of found.items ≡ lexemes bytes.now) }
+{
+    let mut found = Vec::new(alloc);
+    let mut scanner = Scanner::new(bytes);
+    'tokens: loop {
+        match scanner.next() {
+            Ok(Some(token)) => found.push(lexed(bytes, token))?,
+            Ok(None) => return Ok(found),
+            Err(at) => {
+                found.push(bad(at))?;
+                return Ok(found);
+            }
+        }
+    }
+}
+
+fn bad<'a>(at: u32) -> Lexeme<'a>
+    ensures { token_of result ≡ record { terminal = Terminal.Bad; at = at; text = [] } }
+{
+    Lexeme {
+        terminal: Terminal::Bad,
+        at,
+        text: "",
+    }
 }

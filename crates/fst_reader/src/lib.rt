@@ -1,17 +1,32 @@
 //! From bytes to the tree that the grammar gives, or the one refusal that is due.
 #![tactic(auto)]
 
+mod atoms;
+mod bodies;
 mod body;
 mod decl;
+mod decls;
 mod definition;
+mod definitions;
 mod form;
+mod heads;
 mod lexeme;
+mod limits;
+mod make;
+mod operands;
 mod operator;
+mod operators;
+mod parts;
 mod pattern;
+mod patterns;
+
 mod reader;
 mod sort;
 mod sorts;
+mod spelling;
 mod terminal;
+mod terms;
+mod whole;
 mod word;
 
 pub use body::{BodyTree, PartNode, PartTree};
@@ -19,5 +34,6 @@ pub use decl::{Decl, EffectName, EffectTree, FunTree, HeadTree, LiftTree, ParamT
 pub use definition::DmTree;
 pub use form::{Form, FormNode};
 pub use pattern::{ArmTree, ConWord};
+pub use whole::read;
 pub use sort::SortTree;
 pub use word::Word;

@@ -1,3 +1,7 @@
+ghost use Rattle.std.specs.Prelude.{◌≡◌};
+ghost use Rattle.fst_reader.specs.Separators.{separator};
+
+use crate::terminal::Terminal;
 use fst_base::{Op, Pos};
 
 /// An operator at its place.
@@ -24,9 +28,27 @@ pub struct Comparison {
     pub at: Pos,
 }
 
-/// A number at its place; a magnitude past 128 bits stands at 2^127.
+/// A number at its place; a magnitude past 2^127 stands at 2^127 + 1.
 #[derive(Clone, Copy, Debug)]
 pub struct Digits {
     pub at: Pos,
     pub magnitude: u128,
+}
+
+/// The mark between the terms of a list.
+#[derive(Clone, Copy, Debug)]
+pub enum Separator {
+    Comma,
+    Semicolon,
+}
+
+impl Separator {
+    pub fn terminal(self) -> Terminal
+        ensures { result ≡ separator self }
+    {
+        match self {
+            Separator::Comma => Terminal::Comma,
+            Separator::Semicolon => Terminal::Semicolon,
+        }
+    }
 }

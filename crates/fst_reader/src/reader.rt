@@ -1,12 +1,15 @@
 //! The tokens that are left to be read.
 
-ghost use Rattle.std.specs.Prelude.{◌≡◌, ◌<◌, ◌≤◌, false, length, OnOk, IfSome};
-ghost use Rattle.fst_grammar.specs.Alphabet.{next};
-ghost use Rattle.fst_reader.specs.Tokens.{alphabet};
+ghost use Rattle.std.specs.Prelude.{◌≡◌, ◌<◌, ◌+◌, [], ◌∷◌, length, map, OnOk};
+ghost use Rattle.fst_grammar.specs.Alphabet.{next, has};
+ghost use Rattle.fst_reader.specs.Tokens.{alphabet, token_of};
+ghost use Rattle.fst_reader.specs.Program.{first_place};
 ghost use Rattle.fst_reader.specs.Productions as n;
-ghost use Rattle.fst_reader.specs.Reading.{Reads, Gives, reads, takes, eats};
+ghost use Rattle.fst_reader.specs.Reading.{Reads, reads, takes, words, numbers};
+ghost use Rattle.fst_reader.specs.Trees.{magnitude};
 
 use crate::lexeme::Lexeme;
+use crate::operator::Digits;
 use crate::terminal::Terminal;
 use crate::word::Word;
 use fst_base::{Name, OutOfMemory, Pos};
@@ -48,9 +51,43 @@ impl<'a> Model for Reader<'a> {
 }
 
 impl<'a> Reader<'a> {
+    /// A reader of these tokens.
+    pub fn new(alloc: Global, tokens: &'a [Lexeme<'a>]) -> Reader<'a>
+        ensures { result ≡ map token_of tokens.now }
+    {
+        Reader {
+            rest: tokens,
+            alloc,
+        }
+    }
+
+    /// The place of the next token, if there is one.
+    pub fn place(&self) -> Option<Pos>
+        ensures { result ≡ first_place self.now }
+    {
+        match self.rest {
+            [token, ..] => Some(Pos { at: token.at }),
+            [] => None,
+        }
+    }
+
     /// What makes the trees.
     pub fn alloc(&self) -> Global {
         self.alloc
+    }
+
+    /// How many tokens are left.
+    pub fn left(&self) -> usize
+        ensures { result ≡ length self.now }
+    {
+        self.rest.len()
+    }
+
+    /// More than the tokens that are left.
+    pub fn room(&self) -> usize
+        ensures { result ≡ length self.now + 1 }
+    {
+        self.rest.len() + 1
     }
 
     /// The terminal of the next token.
@@ -61,6 +98,13 @@ impl<'a> Reader<'a> {
             [token, ..] => token.terminal,
             [] => Terminal::End,
         }
+    }
+
+    /// Whether a token of this terminal comes next.
+    pub fn at(&self, terminal: Terminal) -> bool
+        ensures { result ≡ has alphabet (terminal ∷ []) (next alphabet self.now) }
+    {
+        self.peek() == terminal
     }
 
     /// Takes a token of this terminal; its place.
@@ -81,37 +125,20 @@ impl<'a> Reader<'a> {
         }
     }
 
-    /// Takes a token of this terminal where one comes next; its place.
-    pub fn eat(&mut self, terminal: Terminal) -> Option<Pos>
-        requires { alphabet.same Terminal.End terminal ≡ false }
-        ensures reads { eats terminal self.old ≡ Ok (result, self.new) }
-        ensures no_longer { length self.new ≤ length self.old }
-        ensures shorter { IfSome result (λ _. length self.new < length self.old) }
+    /// Takes a token of this terminal, as a word.
+    fn word(&mut self, terminal: Terminal) -> Result<Word, Stop>
+        ensures reads { Reads (words terminal self.old) result self.new }
+        ensures shorter { OnOk result (length self.new < length self.old) }
     {
         match self.rest {
             [token, rest @ ..] => {
                 if token.terminal == terminal {
                     self.rest = rest;
-                    Some(Pos { at: token.at })
-                } else {
-                    None
-                }
-            }
-            [] => None,
-        }
-    }
-
-    /// An identifier.
-    #[tactic(auto, using(crate::proofs::Opens::opens))]
-    pub fn name(&mut self) -> Result<Word, Stop>
-        ensures reads { Reads (reads n.name self.old) result self.new }
-        ensures shorter { OnOk result (length self.new < length self.old) }
-    {
-        match self.rest {
-            [token, rest @ ..] => {
-                if token.terminal == Terminal::Name {
-                    self.rest = rest;
-                    word(self.alloc, token.text, token.at)
+                    let text = Name::new(self.alloc, token.text)?;
+                    Ok(Word {
+                        text,
+                        at: Pos { at: token.at },
+                    })
                 } else {
                     Err(Stop::Syntax)
                 }
@@ -119,12 +146,82 @@ impl<'a> Reader<'a> {
             [] => Err(Stop::Syntax),
         }
     }
+
+    /// Takes a token of this terminal, as digits.
+    pub fn digits(&mut self, terminal: Terminal) -> Result<Digits, Stop>
+        ensures reads { Reads (numbers terminal self.old) result self.new }
+        ensures shorter { OnOk result (length self.new < length self.old) }
+    {
+        match self.rest {
+            [token, rest @ ..] => {
+                if token.terminal == terminal {
+                    self.rest = rest;
+                    Ok(Digits {
+                        at: Pos { at: token.at },
+                        magnitude: magnitude(token.text),
+                    })
+                } else {
+                    Err(Stop::Syntax)
+                }
+            }
+            [] => Err(Stop::Syntax),
+        }
+    }
+
+    /// An identifier but for `_`.
+    #[tactic(auto, using(crate::proofs::Opens::opens))]
+    pub fn name(&mut self) -> Result<Word, Stop>
+        ensures reads { Reads (reads n.name self.old) result self.new }
+        ensures shorter { OnOk result (length self.new < length self.old) }
+    {
+        let name = self.word(Terminal::Name)?;
+        Ok(name)
+    }
+
+    /// An identifier.
+    #[tactic(auto, using(crate::proofs::Opens::opens))]
+    pub fn binder(&mut self) -> Result<Word, Stop>
+        ensures reads { Reads (reads n.binder self.old) result self.new }
+        ensures shorter { OnOk result (length self.new < length self.old) }
+    {
+        match self.peek() {
+            Terminal::Name => {
+                let name = self.word(Terminal::Name)?;
+                Ok(name)
+            }
+            _ => {
+                let hole = self.word(Terminal::Hole)?;
+                Ok(hole)
+            }
+        }
+    }
+
+    #[tactic(auto, using(crate::proofs::Opens::opens))]
+    pub fn number(&mut self) -> Result<Digits, Stop>
+        ensures reads { Reads (reads n.number self.old) result self.new }
+        ensures shorter { OnOk result (length self.new < length self.old) }
+    {
+        match self.peek() {
+            Terminal::Small => {
+                let small = self.digits(Terminal::Small)?;
+                Ok(small)
+            }
+            _ => {
+                let number = self.digits(Terminal::Number)?;
+                Ok(number)
+            }
+        }
+    }
 }
 
-/// The text as a word.
-fn word(alloc: Global, text: &str, at: u32) -> Result<Word, Stop>
-    ensures { Gives (record { text = text.now; at = record { at = at } }) result }
+/// The number that the digits are, up to 2^127 + 1.
+pub fn magnitude(digits: &str) -> u128
+    ensures { result ≡ magnitude digits.now }
 {
-    let text = Name::new(alloc, text)?;
-    Ok(Word { text, at: Pos { at } })
+    let mut number: u128 = 0;
+    for digit in digits.as_bytes() {
+        let digit = digit.saturating_sub(b'0') as u128;
+        number = number.saturating_mul(10).saturating_add(digit).min((1 << 127) + 1);
+    }
+    number
 }
