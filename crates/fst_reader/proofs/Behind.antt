@@ -40,13 +40,13 @@ operation_opens ts = opens n.operation ts ∙ linked (reads (n.other false) ts) 
 module _ {C : Type 0} (make : Word → List Tree → C) (w : Word) where
   called_at : (p : Pos) (o : O (List Tree))
       → ◌≡◌ {A = O C} (given w (◌>>=◌ {A = List Tree} {B = Word → C} (◌>>=◌ {A = Pos × List Tree} {B = List Tree} (o >>= (λ xs ks. Ok ((p, xs), ks))) (λ q ks. Ok (q.1, ks))) (λ xs ks. Ok ((λ w. make w xs), ks))))
-          (o >>= (λ xs ks. Ok (make w xs, ks)))
+      (o >>= (λ xs ks. Ok (make w xs, ks)))
   called_at p (Ok q) = refl
   called_at p (Err ks) = refl
 
   called : (o : O Pos) (args : List Token → O (List Tree))
       → ◌≡◌ {A = O C} (given w (◌>>=◌ {A = List Tree} {B = Word → C} (◌>>=◌ {A = Pos × List Tree} {B = List Tree} (o >>= (λ p ms. args ms >>= (λ xs ks. Ok ((p, xs), ks)))) (λ q ks. Ok (q.1, ks))) (λ xs ks. Ok ((λ w. make w xs), ks))))
-          (o >>= (λ _ ms. args ms >>= (λ xs ks. Ok (make w xs, ks))))
+      (o >>= (λ _ ms. args ms >>= (λ xs ks. Ok (make w xs, ks))))
   called (Ok p) args = called_at p.0 (args p.1)
   called (Err ks) args = refl
 
@@ -63,13 +63,13 @@ run_part w xs = D.Run w xs
 
 pub after_name_opens : (w : Word) (ts : List Token) → given w (reads n.after_name ts)
     ≡ (if (comes (k.LeftParen ∷ []) ts) then (takes k.LeftParen ts >>= (λ _ ms. reads (n.args false) ms >>= (λ xs ks. Ok (record { at = w.at; node = P.Call w xs }, ks))))
-        else (given (t.ident w) (reads n.rest ts) >>= (λ a ks. Ok (n.term_part a, ks))))
+    else (given (t.ident w) (reads n.rest ts) >>= (λ a ks. Ok (n.term_part a, ks))))
 after_name_opens w ts = ap (given w) (opens n.after_name ts) ∙ given_if w _ _ _
     ∙ if_both (comes (k.LeftParen ∷ []) ts) _ _ _ _ (called call_part w (takes k.LeftParen ts) (reads (n.args false))) (operated call_part w n.term_part (reads n.rest ts))
 
 pub dm_after_name_opens : (w : Word) (ts : List Token) → given w (reads n.dm_after_name ts)
     ≡ (if (comes (k.LeftParen ∷ []) ts) then (takes k.LeftParen ts >>= (λ _ ms. reads n.run_args ms >>= (λ xs ks. Ok (D.Run w xs, ks))))
-        else (given (t.ident w) (reads n.rest ts) >>= (λ a ks. Ok (D.Term a, ks))))
+    else (given (t.ident w) (reads n.rest ts) >>= (λ a ks. Ok (D.Term a, ks))))
 dm_after_name_opens w ts = ap (given w) (opens n.dm_after_name ts) ∙ given_if w _ _ _
     ∙ if_both (comes (k.LeftParen ∷ []) ts) _ _ _ _ (called run_part w (takes k.LeftParen ts) (reads n.run_args)) (operated run_part w D.Term (reads n.rest ts))
 
@@ -167,6 +167,6 @@ module _ (a : Tree) where
 
   pub rest_opens : (ts : List Token) → given a (reads n.rest ts)
       ≡ (given a (reads (n.prod_more false) ts) >>= (λ b ts. given b (reads (n.sum_more false) ts) >>= (λ c ts. reads (n.con_more false) ts >>= (λ d ts. reads (n.cmp_more false) ts >>= (λ e ts.
-          given (t.compared_by (t.cons_by c d) e) (reads (n.conj_more false) ts) >>= (λ f ts. given f (reads (n.disj_more false) ts) >>= (λ g ts. reads (n.implies_more false) ts >>= (λ h ks. Ok (t.implied_by g h, ks)))))))))
+      given (t.compared_by (t.cons_by c d) e) (reads (n.conj_more false) ts) >>= (λ f ts. given f (reads (n.disj_more false) ts) >>= (λ g ts. reads (n.implies_more false) ts >>= (λ h ks. Ok (t.implied_by g h, ks)))))))))
   rest_opens ts = ap (given a) (opens n.rest ts)
       ∙ given_act a (Q1 ts) (λ p a. t.implied_by (p.1.1.1.1.1.0 (p.1.1.1.1.0 (t.compared_by (t.cons_by (p.1.0 (p.0 a)) p.1.1.0) p.1.1.1.0))) p.1.1.1.1.1.1) ∙ step1 ts

@@ -55,10 +55,10 @@ closed_act at (Ok p) more = closed_at at p.0 (more p.1)
 
 pub enclosed_opens : (f : Bool) (at : Pos) (ts : List Token) → placed at (reads (n.enclosed f) ts)
     ≡ (if (comes (k.RightParen ∷ []) ts) then (takes k.RightParen ts >>= λ _ ks. Ok (t.unit at, ks)) else
-        (if (comes (k.If ∷ []) ts) then reads (n.choice f) ts else (reads (n.term f) ts >>= λ a ms. closed a at (reads (n.inner_more f) ms))))
+    (if (comes (k.If ∷ []) ts) then reads (n.choice f) ts else (reads (n.term f) ts >>= λ a ms. closed a at (reads (n.inner_more f) ms))))
 enclosed_opens f at ts = ap (placed at) (opens (n.enclosed f) ts) ∙ given_if at _ _ _
     ∙ if_both (comes (k.RightParen ∷ []) ts) _ _ _ _ (given_act at (takes k.RightParen ts) (λ _ p. t.unit p))
-        (given_if at _ _ _ ∙ if_both (comes (k.If ∷ []) ts) _ _ _ _ (given_act at (reads (n.choice f) ts) (λ a _. a) ∙ same_tree _) (closed_act at (reads (n.term f) ts) (reads (n.inner_more f))))
+    (given_if at _ _ _ ∙ if_both (comes (k.If ∷ []) ts) _ _ _ _ (given_act at (reads (n.choice f) ts) (λ a _. a) ∙ same_tree _) (closed_act at (reads (n.term f) ts) (reads (n.inner_more f))))
 
 pub inner_opens : (at : Pos) (ts : List Token) → placed at (reads (n.inner true) ts)
     ≡ (if (comes (k.Let ∷ []) ts) then reads n.let_in ts else placed at (reads (n.enclosed true) ts))
@@ -85,8 +85,8 @@ list_stop s m f ts xs w e =
 
 list_more : (xs : List Tree) (at : Pos) (a : Tree) (o : O (List Tree))
     → ◌≡◌ {A = O (List Tree)}
-        (behind xs (◌>>=◌ {A = Tree × List Tree} {B = List Tree} (◌>>=◌ {A = Pos × (Tree × List Tree)} {B = Tree × List Tree} (◌>>=◌ {A = Tree × List Tree} {B = Pos × (Tree × List Tree)} (◌>>=◌ {A = List Tree} {B = Tree × List Tree} o (λ more ks. Ok ((a, more), ks))) (λ q ks. Ok ((at, q), ks))) (λ p ks. Ok (p.1, ks))) (λ p ks. Ok (p.0 ∷ p.1, ks))))
-        (behind (xs ++ (a ∷ [])) o)
+    (behind xs (◌>>=◌ {A = Tree × List Tree} {B = List Tree} (◌>>=◌ {A = Pos × (Tree × List Tree)} {B = Tree × List Tree} (◌>>=◌ {A = Tree × List Tree} {B = Pos × (Tree × List Tree)} (◌>>=◌ {A = List Tree} {B = Tree × List Tree} o (λ more ks. Ok ((a, more), ks))) (λ q ks. Ok ((at, q), ks))) (λ p ks. Ok (p.1, ks))) (λ p ks. Ok (p.0 ∷ p.1, ks))))
+    (behind (xs ++ (a ∷ [])) o)
 list_more xs at a (Err ks) = refl
 list_more xs at a (Ok p) = ap (λ ys. Ok (ys, p.1)) (sym (append_assoc xs (a ∷ []) p.0))
 
@@ -118,22 +118,22 @@ bracketed m o more = o >>= (λ a ms. behind (a ∷ []) (more ms) >>= (λ xs us. 
 
 closing : (a : Tree) (xs : List Tree) (o : O Pos)
     → ◌≡◌ {A = O (List Tree)}
-        (◌>>=◌ {A = Tree × List Tree} {B = List Tree} (◌>>=◌ {A = List Tree} {B = Tree × List Tree} (◌>>=◌ {A = List Tree × Pos} {B = List Tree} (o >>= (λ p ks. Ok ((xs, p), ks))) (λ q ks. Ok (q.0, ks))) (λ ys ks. Ok ((a, ys), ks))) (λ p ks. Ok (p.0 ∷ p.1, ks)))
-        (o >>= (λ _ ks. Ok (a ∷ xs, ks)))
+    (◌>>=◌ {A = Tree × List Tree} {B = List Tree} (◌>>=◌ {A = List Tree} {B = Tree × List Tree} (◌>>=◌ {A = List Tree × Pos} {B = List Tree} (o >>= (λ p ks. Ok ((xs, p), ks))) (λ q ks. Ok (q.0, ks))) (λ ys ks. Ok ((a, ys), ks))) (λ p ks. Ok (p.0 ∷ p.1, ks)))
+    (o >>= (λ _ ks. Ok (a ∷ xs, ks)))
 closing a xs (Ok p) = refl
 closing a xs (Err ks) = refl
 
 closed_list : (m : Terminal) (a : Tree) (o : O (List Tree))
     → ◌≡◌ {A = O (List Tree)}
-        (◌>>=◌ {A = Tree × List Tree} {B = List Tree} (◌>>=◌ {A = List Tree} {B = Tree × List Tree} (◌>>=◌ {A = List Tree × Pos} {B = List Tree} (o >>= (λ xs us. takes m us >>= (λ p ks. Ok ((xs, p), ks)))) (λ q ks. Ok (q.0, ks))) (λ ys ks. Ok ((a, ys), ks))) (λ p ks. Ok (p.0 ∷ p.1, ks)))
-        (behind (a ∷ []) o >>= (λ xs us. takes m us >>= (λ _ ks. Ok (xs, ks))))
+    (◌>>=◌ {A = Tree × List Tree} {B = List Tree} (◌>>=◌ {A = List Tree} {B = Tree × List Tree} (◌>>=◌ {A = List Tree × Pos} {B = List Tree} (o >>= (λ xs us. takes m us >>= (λ p ks. Ok ((xs, p), ks)))) (λ q ks. Ok (q.0, ks))) (λ ys ks. Ok ((a, ys), ks))) (λ p ks. Ok (p.0 ∷ p.1, ks)))
+    (behind (a ∷ []) o >>= (λ xs us. takes m us >>= (λ _ ks. Ok (xs, ks))))
 closed_list m a (Ok p) = closing a p.0 (takes m p.1)
 closed_list m a (Err ks) = refl
 
 whole_list : (m : Terminal) (o : O Tree) (more : List Token → O (List Tree))
     → ◌≡◌ {A = O (List Tree)}
-        (◌>>=◌ {A = Tree × List Tree} {B = List Tree} (o >>= (λ a ms. ◌>>=◌ {A = List Tree} {B = Tree × List Tree} (◌>>=◌ {A = List Tree × Pos} {B = List Tree} (more ms >>= (λ xs us. takes m us >>= (λ p ks. Ok ((xs, p), ks)))) (λ q ks. Ok (q.0, ks))) (λ ys ks. Ok ((a, ys), ks)))) (λ p ks. Ok (p.0 ∷ p.1, ks)))
-        (bracketed m o more)
+    (◌>>=◌ {A = Tree × List Tree} {B = List Tree} (o >>= (λ a ms. ◌>>=◌ {A = List Tree} {B = Tree × List Tree} (◌>>=◌ {A = List Tree × Pos} {B = List Tree} (more ms >>= (λ xs us. takes m us >>= (λ p ks. Ok ((xs, p), ks)))) (λ q ks. Ok (q.0, ks))) (λ ys ks. Ok ((a, ys), ks)))) (λ p ks. Ok (p.0 ∷ p.1, ks)))
+    (bracketed m o more)
 whole_list m (Ok p) more = closed_list m p.0 (more p.1)
 whole_list m (Err ks) more = refl
 
@@ -168,9 +168,9 @@ not_act at (Err ks) more = refl
 
 pub negated_opens : (f : Bool) (at : Pos) (ts : List Token) → placed at (reads (n.negated f) ts)
     ≡ (if (comes (k.Small ∷ k.Number ∷ []) ts) then (reads n.number ts >>= (λ d ks. Ok (t.negative at d.magnitude, ks))) else
-        (if (comes (k.Minus ∷ []) ts) then (takes k.Minus ts >>= (λ p ms. placed p (reads (n.negated f) ms) >>= (λ a ks. Ok (t.unary op.Neg at a, ks)))) else
-        (if (comes (k.Not ∷ []) ts) then (takes k.Not ts >>= (λ p ms. reads (n.un f) ms >>= (λ a ks. Ok (t.unary op.Neg at (t.negation p a), ks)))) else
-        (reads (n.solid f) ts >>= (λ a ks. Ok (t.unary op.Neg at a, ks))))))
+    (if (comes (k.Minus ∷ []) ts) then (takes k.Minus ts >>= (λ p ms. placed p (reads (n.negated f) ms) >>= (λ a ks. Ok (t.unary op.Neg at a, ks)))) else
+    (if (comes (k.Not ∷ []) ts) then (takes k.Not ts >>= (λ p ms. reads (n.un f) ms >>= (λ a ks. Ok (t.unary op.Neg at (t.negation p a), ks)))) else
+    (reads (n.solid f) ts >>= (λ a ks. Ok (t.unary op.Neg at a, ks))))))
 negated_opens f at ts = ap (placed at) (opens (n.negated f) ts) ∙ given_if at _ _ _
     ∙ if_both (comes (k.Small ∷ k.Number ∷ []) ts) _ _ _ _ (given_act at (reads n.number ts) (λ d p. t.negative p d.magnitude)) (given_if at _ _ _
     ∙ if_both (comes (k.Minus ∷ []) ts) _ _ _ _ (minus_act at (takes k.Minus ts) (reads (n.negated f))) (given_if at _ _ _

@@ -21,13 +21,13 @@ marked_at p a (Err ks) = refl
 
 marked_item : (p : Pos) (o : O Tree) (more : List Token → O (List Tree))
     → ◌≡◌ {A = O (List Tree)} (◌>>=◌ {A = Tree × List Tree} {B = List Tree} (◌>>=◌ {A = Pos × (Tree × List Tree)} {B = Tree × List Tree} (◌>>=◌ {A = Tree × List Tree} {B = Pos × (Tree × List Tree)} (o >>= (λ a ms. more ms >>= (λ xs ks. Ok ((a, xs), ks)))) (λ q ks. Ok ((p, q), ks))) (λ p ks. Ok (p.1, ks))) (λ p ks. Ok (p.0 ∷ p.1, ks)))
-        (o >>= (λ a us. behind (a ∷ []) (more us)))
+    (o >>= (λ a us. behind (a ∷ []) (more us)))
 marked_item p (Ok q) more = marked_at p q.0 (more q.1)
 marked_item p (Err ks) more = refl
 
 marked : (o : O Pos) (item : List Token → O Tree) (more : List Token → O (List Tree))
     → ◌≡◌ {A = O (List Tree)} (◌>>=◌ {A = Tree × List Tree} {B = List Tree} (◌>>=◌ {A = Pos × (Tree × List Tree)} {B = Tree × List Tree} (o >>= (λ p ts. ◌>>=◌ {A = Tree × List Tree} {B = Pos × (Tree × List Tree)} (item ts >>= (λ a ms. more ms >>= (λ xs ks. Ok ((a, xs), ks)))) (λ q ks. Ok ((p, q), ks)))) (λ p ks. Ok (p.1, ks))) (λ p ks. Ok (p.0 ∷ p.1, ks)))
-        (o >>= (λ _ ms. item ms >>= (λ a us. behind (a ∷ []) (more us))))
+    (o >>= (λ _ ms. item ms >>= (λ a us. behind (a ∷ []) (more us))))
 marked (Ok p) item more = marked_item p.0 (item p.1) more
 marked (Err ks) item more = refl
 

@@ -214,17 +214,14 @@ rule program = (λ p. p.0 ∷ p.1) ⇐ call decl ⋅ call program
 rule decl = M.Effect ⇐ call effect
     ∣ M.Lift ⇐ call lift
     ∣ M.Fun ⇐ call fun
-
 rule effect = (λ p. record { name = p.0; div = p.1.0; input = p.1.1.0; result = p.1.1.1.0; ret_names = p.1.1.1.1.0; ret = p.1.1.1.1.1.0; bind_names = p.1.1.1.1.1.1.0; bind = p.1.1.1.1.1.1.1 })
     ⇐ k.Effect ▸ call name ⋅ k.Colon ▸ call base ⋅ k.Input ▸ call sort ⋅ k.Result ▸ call sort ⋅ k.Return ▸ call two_names ⋅ call dm_block ⋅ k.Bind ▸ call three_names ⋅ call dm_block
 rule base = (λ _. false) ⇐ mark k.PureEffect
     ∣ (λ _. true) ⇐ mark k.DivEffect
 rule two_names = (λ p. p.0 ∷ p.1 ∷ []) ⇐ call binder ⋅ call binder
 rule three_names = (λ p. p.0 ∷ p.1.0 ∷ p.1.1 ∷ []) ⇐ call binder ⋅ call binder ⋅ call binder
-
 rule lift = (λ p. record { at = p.0; from = p.1.0; «to» = p.1.1.0; names = p.1.1.1.0; text = p.1.1.1.1 })
     ⇐ mark k.Lift ⋅ call name ⋅ k.To ▸ call name ⋅ k.By ▸ call two_names ⋅ call dm_block
-
 rule fun = (λ p. record { head = p.0; joined = false; body = p.1 }) ⇐ call head ⋅ call block
 rule head = (λ p. record { name = p.0; params = p.1.0; effect = p.1.1.0; sort = p.1.1.1.0; needs = p.1.1.1.1.0; gives = p.1.1.1.1.1.0; measures = p.1.1.1.1.1.1.0; «unfold» = p.1.1.1.1.1.1.1 })
     ⇐ k.Fun ▸ call name ⋅ call params ⋅ k.Colon ▸ call effname ⋅ call sort ⋅ call needs ⋅ call gives ⋅ call measures ⋅ call depth
@@ -238,7 +235,6 @@ rule (measures_more (suc n)) = (λ p. p.0 ∷ p.1) ⇐ k.Comma ▸ call (term tr
     ∣ (λ _. []) ⇐ empty
 rule depth = (λ n. n) ⇐ k.Unfold ▸ call small
     ∣ (λ _. 1) ⇐ empty
-
 rule effname = (λ _. E.Pure) ⇐ mark k.PureEffect
     ∣ (λ _. E.Ghost) ⇐ mark k.GhostEffect
     ∣ (λ _. E.Div) ⇐ mark k.DivEffect
@@ -249,7 +245,6 @@ rule param = (λ p. record { hidden = p.0; name = p.1.0; sort = p.1.1.0; refine 
     ⇐ call hidden ⋅ k.LeftParen ▸ call binder ⋅ k.Colon ▸ call sort ⋅ call refinement ◂ k.RightParen
 rule hidden = t.is_there ⇐ optional (mark k.Ghost)
 rule refinement = (λ a. a) ⇐ optional (k.LeftBrace ▸ call (term true) ◂ k.RightBrace)
-
 rule sort = (λ p. product p.0 p.1) ⇐ call sat ⋅ call sort_more
 rule sort_more = (λ a. a) ⇐ optional (k.Star ▸ call sort)
 rule sat = (λ _. S.Unit) ⇐ mark k.Unit
@@ -260,7 +255,6 @@ rule sat = (λ _. S.Unit) ⇐ mark k.Unit
     ∣ (λ p. S.Either p.0 p.1) ⇐ k.Either ▸ call sat ⋅ call sat
     ∣ S.Ident ⇐ call name
     ∣ (λ s. s) ⇐ k.LeftParen ▸ call sort ◂ k.RightParen
-
 rule body = (λ a. a) ⇐ call ghost_let
     ∣ (λ a. a) ⇐ call plain_let
     ∣ (λ a. a) ⇐ call assertion
@@ -275,7 +269,6 @@ rule matching = (λ p. B.Match p.1.0 p.0 p.1.1) ⇐ mark k.Match ⋅ call (term 
 rule block = (λ a. a) ⇐ k.LeftBrace ▸ call body ◂ k.RightBrace
 rule binding = (λ p. record { name = p.0; sort = p.1.0; part = p.1.1 }) ⇐ call binder ⋅ call annotation ⋅ k.Equal ▸ call part ◂ k.In
 rule annotation = (λ a. a) ⇐ optional (k.Colon ▸ call sort)
-
 -- NAME '(' [term {',' term}] ')' and the terms that begin with a NAME are the fourth row: the token after the NAME settles
 -- which. Other terms are the fifth.
 rule part = (λ a. a) ⇐ call block_part
@@ -293,12 +286,10 @@ rule operation = (λ p. p.1 p.0) ⇐ call (other false) ⋅ call rest
 -- what may follow the first operand of a term
 rule rest = (λ p a. t.implied_by (p.1.1.1.1.1.0 (p.1.1.1.1.0 (t.compared_by (t.cons_by (p.1.0 (p.0 a)) p.1.1.0) p.1.1.1.0))) p.1.1.1.1.1.1)
     ⇐ call (prod_more false) ⋅ call (sum_more false) ⋅ call (con_more false) ⋅ call (cmp_more false) ⋅ call (conj_more false) ⋅ call (disj_more false) ⋅ call (implies_more false)
-
 rule arms = (λ p. p.0 ∷ p.1) ⇐ call arm ⋅ call arms_more
 rule arms_more = (λ p. p.0 ∷ p.1) ⇐ call arm ⋅ call arms_more
     ∣ (λ _. []) ⇐ empty
 rule arm = (λ p. record { at = p.0.at; con = p.0.con; names = p.0.names; body = p.1 }) ⇐ k.Bar ▸ call pattern ⋅ k.Arrow ▸ call body
-
 rule dm = (λ a. a) ⇐ call dm_let
     ∣ (λ a. a) ⇐ call dm_branching
     ∣ (λ a. a) ⇐ call dm_matching
@@ -308,7 +299,6 @@ rule dm_branching = (λ p. D.If p.0 p.1.0 p.1.1) ⇐ k.If ▸ call (term false) 
 rule dm_matching = (λ p. D.Match p.1.0 p.0 p.1.1) ⇐ mark k.Match ⋅ call (term false) ⋅ k.With ▸ call dm_arms ◂ k.EndWord
 rule dm_block = (λ a. a) ⇐ k.LeftBrace ▸ call dm ◂ k.RightBrace
 rule dm_binding = (λ p. record { name = p.0; sort = p.1.0; part = p.1.1 }) ⇐ call binder ⋅ call annotation ⋅ k.Equal ▸ call dmpart ◂ k.In
-
 -- NAME '(' term ')', NAME '(' term ',' term ')' and the terms that begin with a NAME are the second row, other terms the third.
 rule dmpart = (λ p. D.Block p.0 p.1) ⇐ mark k.LeftBrace ⋅ call dm ◂ k.RightBrace
     ∣ (λ a. a) ⇐ call dm_named_part
@@ -322,7 +312,6 @@ rule dm_arms = (λ p. p.0 ∷ p.1) ⇐ call dm_arm ⋅ call dm_arms_more
 rule dm_arms_more = (λ p. p.0 ∷ p.1) ⇐ call dm_arm ⋅ call dm_arms_more
     ∣ (λ _. []) ⇐ empty
 rule dm_arm = (λ p. record { at = p.0.at; con = p.0.con; names = p.0.names; body = p.1 }) ⇐ k.Bar ▸ call pattern ⋅ k.Arrow ▸ call dm
-
 rule pattern = (λ p. record { at = p; con = C.True; names = [] }) ⇐ mark k.True
     ∣ (λ p. record { at = p; con = C.False; names = [] }) ⇐ mark k.False
     ∣ (λ p. record { at = p; con = C.Empty; names = [] }) ⇐ mark k.None
@@ -332,7 +321,6 @@ rule pattern = (λ p. record { at = p; con = C.True; names = [] }) ⇐ mark k.Tr
     ∣ (λ p. record { at = p.0; con = C.Left; names = p.1 ∷ [] }) ⇐ mark k.Inl ⋅ call binder
     ∣ (λ p. record { at = p.0; con = C.Right; names = p.1 ∷ [] }) ⇐ mark k.Inr ⋅ call binder
     ∣ (λ p. record { at = p.0; con = C.Pair; names = p.1.0 ∷ p.1.1 ∷ [] }) ⇐ mark k.LeftParen ⋅ call binder ⋅ k.Comma ▸ call binder ◂ k.RightParen
-
 -- Terms at false, formulas at true. Chains of || && + - * / % nest to the left, ==> and :: to the right.
 rule (term f) = (λ p. t.implied_by p.0 p.1) ⇐ call (disj f) ⋅ call (implies_more f)
 rule (implies_more f) = (λ a. a) ⇐ optional (mark k.Implies ⋅ call (term f))
@@ -363,7 +351,6 @@ rule (prod_more f) = (λ p a. p.1.1 (t.operated p.0 a p.1.0)) ⇐ call prod_oper
 rule prod_operator = (λ p. record { op = op.Mul; at = p }) ⇐ mark k.Star
     ∣ (λ p. record { op = op.Div; at = p }) ⇐ mark k.Slash
     ∣ (λ p. record { op = op.Rem; at = p }) ⇐ mark k.Percent
-
 -- un, app and atom, where '-' NUMBER is a literal: `other` is un but for a NAME, `negated` what follows the '-' of
 -- '-' un or of '-' NUMBER, `solid` app but for a number, `named` and `plain` an atom but for a number.
 rule (un f) = (λ a. a) ⇐ call (named f)
@@ -422,7 +409,6 @@ rule (items f) = (λ _. []) ⇐ mark k.RightBracket
     ∣ (λ p. p.0 ∷ p.1) ⇐ call (term f) ⋅ call (terms_more X.Semicolon f) ◂ k.RightBracket
 rule (terms_more s f) = (λ p. p.0 ∷ p.1) ⇐ separator s ▸ call (term f) ⋅ call (terms_more s f)
     ∣ (λ _. []) ⇐ empty
-
 rule name = word ⇐ token k.Name
 -- a NAME that may be `_`
 rule binder = word ⇐ token k.Name

@@ -184,7 +184,12 @@ impl<F: Fn(bool, &mut Reader<'_>, usize) -> Result<Form<Word>, Stop>> Terms<F> {
     }
 
     #[tactic(auto, using(crate::proofs::Opens::opens))]
-    fn inner_more(&self, reader: &mut Reader<'_>, first: Form<Word>, at: Pos) -> Result<Form<Word>, Stop>
+    fn inner_more(
+        &self,
+        reader: &mut Reader<'_>,
+        first: Form<Word>,
+        at: Pos,
+    ) -> Result<Form<Word>, Stop>
         requires nests { Nests self.now.formula self.now.room (F.pre self.now.term) (F.post self.now.term) }
         requires room { length reader.old < self.now.room }
         ensures reads { Reads (closed first at (reads (n.inner_more self.now.formula) reader.old)) result reader.new }

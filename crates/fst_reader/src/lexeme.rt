@@ -8,8 +8,8 @@ ghost use Rattle.fst_reader.specs.Lexemes.{terminal_of, lexed, lexemes};
 use crate::reader::magnitude;
 use crate::spelling::spelled_by;
 use crate::terminal::Terminal;
-use fst_text::{Kind, Scanner, Token};
 use fst_base::OutOfMemory;
+use fst_text::{Kind, Scanner, Token};
 use std::alloc::Global;
 use std::str::from_utf8;
 

@@ -2,14 +2,10 @@
 #![tactic(auto)]
 
 mod atoms;
-mod bodies;
 mod body;
 mod decl;
-mod decls;
 mod definition;
-mod definitions;
 mod form;
-mod heads;
 mod lexeme;
 mod limits;
 mod make;
@@ -19,21 +15,21 @@ mod operators;
 mod parts;
 mod pattern;
 mod patterns;
-
 mod reader;
 mod sort;
 mod sorts;
 mod spelling;
 mod terminal;
 mod terms;
-mod whole;
 mod word;
 
 pub use body::{BodyTree, PartNode, PartTree};
-pub use decl::{Decl, EffectName, EffectTree, FunTree, HeadTree, LiftTree, ParamTree, RawDecl, RawProgram, RawTerm};
+pub use decl::{
+    Decl, EffectName, EffectTree, FunTree, HeadTree, LiftTree, ParamTree, RawDecl, RawProgram,
+    RawTerm,
+};
 pub use definition::DmTree;
 pub use form::{Form, FormNode};
 pub use pattern::{ArmTree, ConWord};
-pub use whole::read;
 pub use sort::SortTree;
 pub use word::Word;

@@ -102,7 +102,11 @@ impl Seen {
         requires declared { self.now.declared ≤ 2048 }
         ensures { result ≡ l.see self.now terminal at }
     {
-        let minus = if terminal == Terminal::Minus && !self.operand { Some(at) } else { None };
+        let minus = if terminal == Terminal::Minus && !self.operand {
+            Some(at)
+        } else {
+            None
+        };
         Seen {
             brackets: self.opened(terminal),
             declared: self.counted(terminal),

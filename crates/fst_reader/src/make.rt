@@ -12,13 +12,19 @@ use std::alloc::Global;
 pub fn truth(truth: bool, at: Pos) -> Form<Word>
     ensures { result ≡ t.truth truth at }
 {
-    Form { at, node: FormNode::Bool(truth) }
+    Form {
+        at,
+        node: FormNode::Bool(truth),
+    }
 }
 
 pub fn unit(at: Pos) -> Form<Word>
     ensures { result ≡ t.unit at }
 {
-    Form { at, node: FormNode::Unit }
+    Form {
+        at,
+        node: FormNode::Unit,
+    }
 }
 
 pub fn literal(digits: Digits) -> Form<Word>
@@ -34,7 +40,11 @@ pub fn literal(digits: Digits) -> Form<Word>
 pub fn negative(at: Pos, magnitude: u128) -> Form<Word>
     ensures { result ≡ t.negative at magnitude }
 {
-    let number = if magnitude < 1 << 127 { -(magnitude as i128) } else { i128::MIN };
+    let number = if magnitude < 1 << 127 {
+        -(magnitude as i128)
+    } else {
+        i128::MIN
+    };
     Form {
         at,
         node: FormNode::Int(number),

@@ -63,7 +63,12 @@ impl<F: Fn(bool, &mut Reader<'_>, usize) -> Result<Form<Word>, Stop>> Terms<F> {
                 let digits = reader.number()?;
                 Ok(make::literal(digits))
             }
-            Terminal::Fst | Terminal::Snd | Terminal::Some | Terminal::Inl | Terminal::Inr | Terminal::Len => {
+            Terminal::Fst
+            | Terminal::Snd
+            | Terminal::Some
+            | Terminal::Inl
+            | Terminal::Inr
+            | Terminal::Len => {
                 let tree = self.prefix(reader)?;
                 Ok(tree)
             }
@@ -152,7 +157,12 @@ impl<F: Fn(bool, &mut Reader<'_>, usize) -> Result<Form<Word>, Stop>> Terms<F> {
                 let tree = self.named(reader)?;
                 Ok(tree)
             }
-            Terminal::Fst | Terminal::Snd | Terminal::Some | Terminal::Inl | Terminal::Inr | Terminal::Len => {
+            Terminal::Fst
+            | Terminal::Snd
+            | Terminal::Some
+            | Terminal::Inl
+            | Terminal::Inr
+            | Terminal::Len => {
                 let tree = self.prefix(reader)?;
                 Ok(tree)
             }
@@ -267,7 +277,12 @@ impl<F: Fn(bool, &mut Reader<'_>, usize) -> Result<Form<Word>, Stop>> Terms<F> {
     }
 
     /// The terms behind a first one, with that one.
-    fn terms_more(&self, reader: &mut Reader<'_>, separator: Separator, first: Form<Word>) -> Result<Seq<Form<Word>>, Stop>
+    fn terms_more(
+        &self,
+        reader: &mut Reader<'_>,
+        separator: Separator,
+        first: Form<Word>,
+    ) -> Result<Seq<Form<Word>>, Stop>
         requires nests { Nests self.now.formula self.now.room (F.pre self.now.term) (F.post self.now.term) }
         requires room { length reader.old ≤ self.now.room }
         ensures reads { Reads (behind (first ∷ []) (reads (n.terms_more separator self.now.formula) reader.old)) result reader.new }

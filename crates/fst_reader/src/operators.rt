@@ -56,27 +56,45 @@ impl<'a> Reader<'a> {
         match self.peek() {
             Terminal::Equal => {
                 let at = self.expect(Terminal::Equal)?;
-                Ok(Comparison { relation: Relation::Equal, at })
+                Ok(Comparison {
+                    relation: Relation::Equal,
+                    at,
+                })
             }
             Terminal::NotEqual => {
                 let at = self.expect(Terminal::NotEqual)?;
-                Ok(Comparison { relation: Relation::NotEqual, at })
+                Ok(Comparison {
+                    relation: Relation::NotEqual,
+                    at,
+                })
             }
             Terminal::LessEqual => {
                 let at = self.expect(Terminal::LessEqual)?;
-                Ok(Comparison { relation: Relation::LessEqual, at })
+                Ok(Comparison {
+                    relation: Relation::LessEqual,
+                    at,
+                })
             }
             Terminal::Less => {
                 let at = self.expect(Terminal::Less)?;
-                Ok(Comparison { relation: Relation::Less, at })
+                Ok(Comparison {
+                    relation: Relation::Less,
+                    at,
+                })
             }
             Terminal::GreaterEqual => {
                 let at = self.expect(Terminal::GreaterEqual)?;
-                Ok(Comparison { relation: Relation::GreaterEqual, at })
+                Ok(Comparison {
+                    relation: Relation::GreaterEqual,
+                    at,
+                })
             }
             _ => {
                 let at = self.expect(Terminal::Greater)?;
-                Ok(Comparison { relation: Relation::Greater, at })
+                Ok(Comparison {
+                    relation: Relation::Greater,
+                    at,
+                })
             }
         }
     }

@@ -10,7 +10,7 @@ use crate::make;
 use crate::reader::{Reader, Stop};
 use crate::sort::SortTree;
 use crate::terminal::Terminal;
-use crate::terms::{term, Terms};
+use crate::terms::{Terms, term};
 use crate::word::Word;
 
 impl<'a> Reader<'a> {
@@ -52,7 +52,11 @@ impl<'a> Reader<'a> {
         ensures reads { Reads (reads n.operation self.old) result self.new }
         ensures shorter { OnOk result (length self.new < length self.old) }
     {
-        let terms = Terms { formula: false, room: self.room(), term };
+        let terms = Terms {
+            formula: false,
+            room: self.room(),
+            term,
+        };
         let first = terms.other(self)?;
         let tree = self.rest(first)?;
         Ok(tree)
@@ -64,7 +68,11 @@ impl<'a> Reader<'a> {
         ensures reads { Reads (given first (reads n.rest self.old)) result self.new }
         ensures no_longer { OnOk result (length self.new ≤ length self.old) }
     {
-        let terms = Terms { formula: false, room: self.room(), term };
+        let terms = Terms {
+            formula: false,
+            room: self.room(),
+            term,
+        };
         let prod = terms.prod_more(self, first)?;
         let sum = terms.sum_more(self, prod)?;
         let more = terms.con_more(self)?;
@@ -95,7 +103,11 @@ impl<'a> Reader<'a> {
         match self.peek() {
             Terminal::LeftParen => {
                 self.expect(Terminal::LeftParen)?;
-                let terms = Terms { formula: false, room: self.room(), term };
+                let terms = Terms {
+                    formula: false,
+                    room: self.room(),
+                    term,
+                };
                 let args = terms.args(self)?;
                 Ok(PartTree {
                     at: name.at,

@@ -221,7 +221,10 @@ pub fn magnitude(digits: &str) -> u128
     let mut number: u128 = 0;
     for digit in digits.as_bytes() {
         let digit = digit.saturating_sub(b'0') as u128;
-        number = number.saturating_mul(10).saturating_add(digit).min((1 << 127) + 1);
+        number = number
+            .saturating_mul(10)
+            .saturating_add(digit)
+            .min((1 << 127) + 1);
     }
     number
 }

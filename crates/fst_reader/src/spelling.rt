@@ -92,13 +92,9 @@ static OF_7: [(&[u8], Terminal); 2] = [
     (b"ensures", Terminal::Ensures),
 ];
 
-static OF_8: [(&[u8], Terminal); 1] = [
-    (b"requires", Terminal::Requires),
-];
+static OF_8: [(&[u8], Terminal); 1] = [(b"requires", Terminal::Requires)];
 
-static OF_9: [(&[u8], Terminal); 1] = [
-    (b"decreases", Terminal::Decreases),
-];
+static OF_9: [(&[u8], Terminal); 1] = [(b"decreases", Terminal::Decreases)];
 
 /// The words and marks of this length.
 #[tactic(auto, unfolding(crate::specs::Spelling::spelled))]

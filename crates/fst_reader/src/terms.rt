@@ -131,7 +131,10 @@ impl<F: Fn(bool, &mut Reader<'_>, usize) -> Result<Form<Word>, Stop>> Terms<F> {
     }
 
     #[tactic(auto, using(crate::proofs::Opens::opens))]
-    pub fn cmp_more(&self, reader: &mut Reader<'_>) -> Result<Option<(Comparison, Form<Word>)>, Stop>
+    pub fn cmp_more(
+        &self,
+        reader: &mut Reader<'_>,
+    ) -> Result<Option<(Comparison, Form<Word>)>, Stop>
         requires nests { Nests self.now.formula self.now.room (F.pre self.now.term) (F.post self.now.term) }
         requires room { length reader.old ≤ self.now.room }
         ensures reads { Reads (reads (n.cmp_more self.now.formula) reader.old) result reader.new }

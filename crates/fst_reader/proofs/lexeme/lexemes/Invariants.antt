@@ -6,9 +6,9 @@ use Rattle.fst_reader.proofs.lexeme.lexemes.Given as goal
 
 abbrev pub invariant-tokens : goal.invariant-tokens
 invariant-tokens l = record {
-    so_far : map token_of l.found.items ++ (map (lexed l.bytes) (tokens_left l.scanner) ++ bad (fault_left l.scanner)) ≡ lexemes l.bytes;
-    text : l.scanner.text ≡ l.bytes;
-  }
+  so_far : map token_of l.found.items ++ (map (lexed l.bytes) (tokens_left l.scanner) ++ bad (fault_left l.scanner)) ≡ lexemes l.bytes;
+  text : l.scanner.text ≡ l.bytes;
+}
 
 abbrev pub decreases-tokens : goal.decreases-tokens
 decreases-tokens l = length l.bytes - l.scanner.at
