@@ -1,0 +1,15 @@
+pub mod Terminals
+pub mod Tables
+pub mod Samples
+pub mod Opens
+pub mod Chains
+pub mod Lists
+pub mod Enclosed
+pub mod Texts
+pub mod Words
+pub mod Runs
+pub mod Behind
+pub mod Measures
+pub mod Rising
+pub mod Exact
+pub mod Refusals

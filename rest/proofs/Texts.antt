@@ -1,0 +1,56 @@
+-- The text of a token is UTF-8.
+use Rattle.std.proofs.Common.{◌≡◌, ℕ, nat_lt, ◌<◌, Bool, true, false, ◌||◌, ◌&&◌, List, [], ◌∷◌, ◌++◌, refl, sym, subst, ◌∙◌, ap, inl, inr, ◌⊎◌, take, drop, arith, rules, bytes_eq}
+use Rattle.std.proofs.lemmas.Slice.Eq.{bytes_eq-Decides}
+use Rattle.std.proofs.lemmas.Str.{IsUtf8-from_ascii}
+use Rattle.std.proofs.lemmas.Str.Ascii.{IsAscii-nil, IsAscii-cons}
+use Rattle.std.proofs.lemmas.Bool.Decides.{nat_tests}
+use Rattle.std.specs.Str.{IsUtf8, IsAscii}
+use Rattle.std.specs.List.{list_all, list_any}
+use Rattle.std.specs.Char.{is_ascii_digit}
+use Rattle.fst_text.specs.declared.token.Kind.{Kind}
+use Rattle.fst_text.specs.declared.token.Kind.TheVariants as kind
+use Rattle.fst_text.specs.Words.{is_one_of}
+use Rattle.fst_text.specs.Marks.{is_mark, marks_of_1, marks_of_2, marks_of_3}
+use Rattle.fst_text.specs.Tokens.{IsName, IsToken}
+
+name_utf8 : (bs : List ℕ) → IsName bs → IsUtf8 bs
+name_utf8 bs n = (n.first ∷ n.rest, (n.scalars, sym n.bytes))
+
+both : (a b : Bool) → a && b ≡ true → (a ≡ true) × (b ≡ true)
+both true b e = (refl, e)
+both false b e = absurd (cc)
+
+either : (a b : Bool) → a || b ≡ true → (a ≡ true) ⊎ (b ≡ true)
+either true b e = inl refl
+either false b e = inr e
+
+low : (b : ℕ) → nat_lt b 128 ≡ true → b < 128
+low b e = grind (arith, nat_tests)
+
+low_ascii : (bs : List ℕ) → list_all (λ b. nat_lt b 128) bs ≡ true → IsAscii bs
+low_ascii [] e = IsAscii-nil
+low_ascii (b ∷ bs) e = let p = both (nat_lt b 128) (list_all (λ b. nat_lt b 128) bs) e in IsAscii-cons b bs (low b p.0) (low_ascii bs p.1)
+
+one_ascii : (texts : List (List ℕ)) (bs : List ℕ) → list_all (list_all (λ b. nat_lt b 128)) texts ≡ true → is_one_of texts bs ≡ true → IsAscii bs
+one_ascii [] bs a e = cc
+one_ascii (w ∷ texts) bs a e = let p = both (list_all (λ b. nat_lt b 128) w) (list_all (list_all (λ b. nat_lt b 128)) texts) a in
+    elim (either (bytes_eq w bs) (is_one_of texts bs) e) [ inl s ↦ subst IsAscii ((bytes_eq-Decides w bs).0 s) (low_ascii w p.0) | inr s ↦ one_ascii texts bs p.1 s ]
+
+mark_ascii : (bs : List ℕ) → is_mark bs ≡ true → IsAscii bs
+mark_ascii bs e = elim (either (is_one_of marks_of_1 bs || is_one_of marks_of_2 bs) (is_one_of marks_of_3 bs) e) [
+  | inl s ↦ elim (either (is_one_of marks_of_1 bs) (is_one_of marks_of_2 bs) s) [ inl u ↦ one_ascii marks_of_1 bs refl u | inr u ↦ one_ascii marks_of_2 bs refl u ]
+  | inr s ↦ one_ascii marks_of_3 bs refl s
+]
+
+digit_ascii : (b : ℕ) → is_ascii_digit b ≡ true → b < 128
+digit_ascii b e = grind (arith, nat_tests)
+
+number_ascii : (bs : List ℕ) → list_all is_ascii_digit bs ≡ true → IsAscii bs
+number_ascii [] e = IsAscii-nil
+number_ascii (b ∷ bs) e = let p = both (is_ascii_digit b) (list_all is_ascii_digit bs) e in IsAscii-cons b bs (digit_ascii b p.0) (number_ascii bs p.1)
+
+pub token_utf8 : (k : Kind) (bs : List ℕ) → IsToken k bs → IsUtf8 bs
+token_utf8 kind.Word bs t = name_utf8 bs t.0
+token_utf8 kind.Ident bs t = name_utf8 bs t.0
+token_utf8 kind.Number bs t = IsUtf8-from_ascii bs (number_ascii bs t.1)
+token_utf8 kind.Mark bs t = IsUtf8-from_ascii bs (mark_ascii bs t)
