@@ -36,3 +36,17 @@ pub(crate) fn copy_formula(
         None => Ok(None),
     }
 }
+
+/// The first with what the second gives. Where the second wants memory the first is let go here, so that the caller owns nothing
+/// at its exit.
+pub fn both<A: Drop, B: Drop>(
+    first: A,
+    second: Result<B, OutOfMemory>,
+) -> Result<(A, B), OutOfMemory>
+    ensures { IfOk result (λ pair. (pair.0 ≡ first) × (second ≡ Ok pair.1)) }
+{
+    match second {
+        Ok(second) => Ok((first, second)),
+        Err(fault) => Err(fault),
+    }
+}
