@@ -104,8 +104,8 @@ fn on_numbers(alloc: Global, op: Op, a: i128, b: i128) -> Option<Result<Value, P
     }
 }
 
-#[test]
-fn numbers(rt: HostRuntime) -> Result<(), Fail> {
+/// The rows of numbers.
+fn numbers(rt: &impl Abort, alloc: Global) -> Result<(), Fail> {
     assert_eq!(rt; table_of_prims().row(Op::Div).name, "div");
     let rows = [
         (Op::Add, 2, -5, Wanted::Number(-3)),
@@ -127,7 +127,7 @@ fn numbers(rt: HostRuntime) -> Result<(), Fail> {
         (Op::Lt, 3, 3, Wanted::Truth(false)),
     ];
     for (op, a, b, wanted) in &rows {
-        let answer = on_numbers(rt.alloc(), *op, *a, *b).ok_or("no row of two numbers")?;
+        let answer = on_numbers(alloc, *op, *a, *b).ok_or("no row of two numbers")?;
         assert!(rt; is_wanted(&answer, wanted));
     }
     Ok(())
@@ -149,11 +149,10 @@ fn gives(
     Ok(())
 }
 
-#[test]
-fn made_data(rt: HostRuntime) -> Result<(), Fail> {
-    let alloc = rt.alloc();
+/// The rows that make data, and equality.
+fn made_data(rt: &impl Abort, alloc: Global) -> Result<(), Fail> {
     gives(
-        &rt,
+        rt,
         alloc,
         Op::Neg,
         &[Value::Int(7)],
@@ -162,21 +161,14 @@ fn made_data(rt: HostRuntime) -> Result<(), Fail> {
     )?;
     let a = some(alloc, Value::List(count_to(alloc, 3)?))?;
     let b = some(alloc, Value::List(count_to(alloc, 3)?))?;
-    gives(&rt, alloc, Op::Eq, &[a, b], &Sort::Bool, &Value::Bool(true))?;
+    gives(rt, alloc, Op::Eq, &[a, b], &Sort::Bool, &Value::Bool(true))?;
     let a = some(alloc, Value::Int(1))?;
     let b = some(alloc, Value::Int(2))?;
-    gives(
-        &rt,
-        alloc,
-        Op::Eq,
-        &[a, b],
-        &Sort::Bool,
-        &Value::Bool(false),
-    )?;
+    gives(rt, alloc, Op::Eq, &[a, b], &Sort::Bool, &Value::Bool(false))?;
     let wanted = pair(alloc, Value::Int(1), Value::Bool(true))?;
     let sort = pair_sort(alloc, Sort::Int, Sort::Bool)?;
     gives(
-        &rt,
+        rt,
         alloc,
         Op::Pair,
         &[Value::Int(1), Value::Bool(true)],
@@ -184,36 +176,35 @@ fn made_data(rt: HostRuntime) -> Result<(), Fail> {
         &wanted,
     )?;
     let sort = option_sort(alloc, Sort::Int)?;
-    gives(&rt, alloc, Op::Nothing, &[], &sort, &Value::Nothing)?;
+    gives(rt, alloc, Op::Nothing, &[], &sort, &Value::Nothing)?;
     let wanted = some(alloc, Value::Int(5))?;
-    gives(&rt, alloc, Op::Just, &[Value::Int(5)], &sort, &wanted)?;
+    gives(rt, alloc, Op::Just, &[Value::Int(5)], &sort, &wanted)?;
     let sort = either_sort(alloc, Sort::Int, Sort::Bool)?;
     let wanted = left(alloc, Value::Int(5))?;
-    gives(&rt, alloc, Op::Inl, &[Value::Int(5)], &sort, &wanted)?;
+    gives(rt, alloc, Op::Inl, &[Value::Int(5)], &sort, &wanted)?;
     let wanted = right(alloc, Value::Bool(true))?;
-    gives(&rt, alloc, Op::Inr, &[Value::Bool(true)], &sort, &wanted)?;
+    gives(rt, alloc, Op::Inr, &[Value::Bool(true)], &sort, &wanted)?;
     Ok(())
 }
 
-#[test]
-fn lists(rt: HostRuntime) -> Result<(), Fail> {
-    let alloc = rt.alloc();
+/// The rows of lists.
+fn lists(rt: &impl Abort, alloc: Global) -> Result<(), Fail> {
     let list = list_sort(alloc, Sort::VarA)?;
     let empty = Value::List(Seq::new(alloc));
-    gives(&rt, alloc, Op::Nil, &[], &list, &empty)?;
+    gives(rt, alloc, Op::Nil, &[], &list, &empty)?;
     let mut backwards = Seq::new(alloc);
     backwards.push(Value::Int(9))?;
     backwards.push(Value::Int(1))?;
     backwards.push(Value::Int(2))?;
     let args = [Value::Int(9), Value::List(count_to(alloc, 2)?)];
-    gives(&rt, alloc, Op::Cons, &args, &list, &Value::List(backwards))?;
+    gives(rt, alloc, Op::Cons, &args, &list, &Value::List(backwards))?;
     let args = [Value::List(count_to(alloc, 1000)?)];
-    gives(&rt, alloc, Op::Len, &args, &Sort::Int, &Value::Int(1000))?;
-    gives(&rt, alloc, Op::Hd, &args, &Sort::VarA, &Value::Int(1))?;
+    gives(rt, alloc, Op::Len, &args, &Sort::Int, &Value::Int(1000))?;
+    gives(rt, alloc, Op::Hd, &args, &Sort::VarA, &Value::Int(1))?;
     let wanted = pair(alloc, Value::Int(0), Value::Bool(false))?;
     let sort = pair_sort(alloc, Sort::Int, Sort::Bool)?;
     gives(
-        &rt,
+        rt,
         alloc,
         Op::Hd,
         &[Value::List(Seq::new(alloc))],
@@ -224,20 +215,19 @@ fn lists(rt: HostRuntime) -> Result<(), Fail> {
     rest.push(Value::Int(2))?;
     rest.push(Value::Int(3))?;
     let args = [Value::List(count_to(alloc, 3)?)];
-    gives(&rt, alloc, Op::Tl, &args, &list, &Value::List(rest))?;
+    gives(rt, alloc, Op::Tl, &args, &list, &Value::List(rest))?;
     Ok(())
 }
 
-#[test]
-fn parts(rt: HostRuntime) -> Result<(), Fail> {
-    let alloc = rt.alloc();
+/// The rows that take pairs, options and alternatives apart.
+fn parts(rt: &impl Abort, alloc: Global) -> Result<(), Fail> {
     let args = [pair(alloc, Value::Int(1), Value::Bool(true))?];
-    gives(&rt, alloc, Op::Fst, &args, &Sort::Int, &Value::Int(1))?;
-    gives(&rt, alloc, Op::Snd, &args, &Sort::Bool, &Value::Bool(true))?;
+    gives(rt, alloc, Op::Fst, &args, &Sort::Int, &Value::Int(1))?;
+    gives(rt, alloc, Op::Snd, &args, &Sort::Bool, &Value::Bool(true))?;
     let args = [some(alloc, Value::Int(5))?];
-    gives(&rt, alloc, Op::The, &args, &Sort::Int, &Value::Int(5))?;
+    gives(rt, alloc, Op::The, &args, &Sort::Int, &Value::Int(5))?;
     gives(
-        &rt,
+        rt,
         alloc,
         Op::The,
         &[Value::Nothing],
@@ -245,7 +235,16 @@ fn parts(rt: HostRuntime) -> Result<(), Fail> {
         &Value::Int(0),
     )?;
     let args = [right(alloc, Value::Bool(true))?];
-    gives(&rt, alloc, Op::Outl, &args, &Sort::Int, &Value::Int(0))?;
-    gives(&rt, alloc, Op::Outr, &args, &Sort::Bool, &Value::Bool(true))?;
+    gives(rt, alloc, Op::Outl, &args, &Sort::Int, &Value::Int(0))?;
+    gives(rt, alloc, Op::Outr, &args, &Sort::Bool, &Value::Bool(true))?;
     Ok(())
+}
+
+#[test]
+fn every_row(rt: HostRuntime) -> Result<(), Fail> {
+    let alloc = rt.alloc();
+    numbers(&rt, alloc)?;
+    made_data(&rt, alloc)?;
+    lists(&rt, alloc)?;
+    parts(&rt, alloc)
 }
