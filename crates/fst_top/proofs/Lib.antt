@@ -4,3 +4,5 @@ pub mod ScopeLemmas
 pub mod BodyLemmas
 pub mod HeadLemmas
 pub mod NamedLemmas
+pub mod DueLemmas
+mod PrintLemmas

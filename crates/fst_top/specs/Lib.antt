@@ -2,3 +2,9 @@ pub mod Built
 pub mod Elaboration
 pub mod Elaborating
 pub mod Scopes
+pub mod Help
+pub mod Printed
+pub mod Statuses
+pub mod Answers
+pub mod Commands
+pub mod Outcomes

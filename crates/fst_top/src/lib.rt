@@ -2,3 +2,7 @@
 #![tactic(auto)]
 
 mod elaborate;
+mod print;
+mod status;
+mod token_words;
+mod words;
