@@ -6,6 +6,7 @@ mod body;
 mod decl;
 mod definition;
 mod form;
+mod laws;
 mod lexeme;
 mod limits;
 mod make;
@@ -30,6 +31,7 @@ pub use decl::{
 };
 pub use definition::DmTree;
 pub use form::{Form, FormNode};
+pub use laws::a_text_has_one_reading;
 pub use pattern::{ArmTree, ConWord};
 pub use sort::SortTree;
 pub use word::Word;

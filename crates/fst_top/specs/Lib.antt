@@ -6,5 +6,6 @@ pub mod Help
 pub mod Printed
 pub mod Statuses
 pub mod Answers
+pub mod Answering
 pub mod Commands
 pub mod Outcomes

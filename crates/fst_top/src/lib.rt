@@ -1,8 +1,12 @@
 //! The top call: from words, a shelf and a sink to a text and a status.
 #![tactic(auto)]
 
+mod checking;
 mod elaborate;
 mod print;
 mod status;
 mod token_words;
+mod top;
 mod words;
+
+pub use top::fstar;
