@@ -13,7 +13,7 @@ use Rattle.fst_top.specs.Answers.{FirstNo}
 -- ---- the first goal that isn't valid
 
 -- a meaning of applications
-abbrev some_meaning : Meaning
+abbrev pub some_meaning : Meaning
 some_meaning = λ k vs. v_unit
 
 -- the first goals of two splits of a list, before which all are valid, are one goal

@@ -6,3 +6,5 @@ pub mod HeadLemmas
 pub mod NamedLemmas
 pub mod DueLemmas
 mod PrintLemmas
+pub mod CheckedLemmas
+pub mod TopLemmas
