@@ -4,3 +4,11 @@ pub mod ScopeLemmas
 pub mod BodyLemmas
 pub mod HeadLemmas
 pub mod NamedLemmas
+pub mod GatheredLemmas
+pub mod FunctionLemmas
+pub mod StopLemmas
+pub mod TypingLemmas
+pub mod FormInduction
+pub mod BodyInduction
+pub mod TypedTreeLemmas
+pub mod ProgramBuilt

@@ -2,3 +2,4 @@ pub mod Built
 pub mod Elaboration
 pub mod Elaborating
 pub mod Scopes
+pub mod Functions
