@@ -9,3 +9,4 @@ pub mod Answers
 pub mod Answering
 pub mod Commands
 pub mod Outcomes
+pub mod Functions

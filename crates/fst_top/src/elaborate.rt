@@ -1,7 +1,9 @@
-//! From the tree of a file to the program that it is, for the programs that are built so far.
+//! From the tree of a file to the program that it is, for the first programs: PURE functions over bool and unit, without calls.
 
 mod bodies;
+mod functions;
 mod heads;
+mod program;
 mod scope;
 mod stop;
 mod terms;
