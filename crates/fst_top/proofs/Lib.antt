@@ -16,3 +16,4 @@ pub mod FormInduction
 pub mod BodyInduction
 pub mod TypedTreeLemmas
 pub mod ProgramBuilt
+pub mod JoinLemmas

@@ -1,5 +1,5 @@
 -- What the steps of an answer give.
-use Rattle.std.specs.Prelude.{◌≡◌, ℕ, List, [], ◌∷◌, length, Option, Some, None, ⊤}
+use Rattle.std.specs.Prelude.{◌≡◌, ◌<◌, ◌^◌, ℕ, List, [], ◌∷◌, length, Option, Some, None, ⊤}
 use Rattle.fst_terms.specs.Meaning.{Meaning, IsValid}
 use Rattle.fst_terms.specs.Flats.{flat_of, IsFirstOpen}
 use Rattle.fst_terms.specs.Propositional.{IsPropositional}
@@ -24,7 +24,7 @@ AllPropositional (g ∷ gs) = IsPropositional g.sequent × AllPropositional gs
 
 -- all goals are valid, and there are so many; or the text is a no about the first that isn't
 abbrev pub IsJudged : (text : List ℕ) → Prog → List Gl → Judged → Type 0
-IsJudged text P gs (judged.Valid n) = (n ≡ length gs) × ((M : Meaning) → GoalsValid M gs)
+IsJudged text P gs (judged.Valid n) = (n ≡ length gs) × (n < 2 ^ 64) × ((M : Meaning) → GoalsValid M gs)
 IsJudged text P gs (judged.No printed) = IsNoOf P gs text printed
 
 -- a no about one goal, with its first open branch

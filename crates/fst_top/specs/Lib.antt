@@ -10,3 +10,4 @@ pub mod Answering
 pub mod Commands
 pub mod Outcomes
 pub mod Functions
+pub mod Branches

@@ -8,3 +8,6 @@ mod scope;
 mod stop;
 mod terms;
 mod typed;
+
+pub use program::elaborate_program;
+pub use stop::Stop;

@@ -1,8 +1,10 @@
 //! The top call: from words, a shelf and a sink to a text and a status.
 #![tactic(auto)]
 
+mod branches;
 mod checking;
 mod elaborate;
+mod goals;
 mod print;
 mod status;
 mod token_words;
