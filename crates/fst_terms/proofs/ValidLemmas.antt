@@ -1,5 +1,5 @@
 -- A propositional sequent is valid exactly where no branch of its flat form is open.
-use Rattle.std.proofs.Common.{◌≡◌, ℕ, zero, suc, ◌+◌, Bool, true, false, if◌then◌else◌, List, [], ◌∷◌, ◌++◌, map, length, reverse, slice_get, Option, Some, None, IsTrue, refl, sym, ap, ap₂, ◌∙◌, subst, arith}
+use Rattle.std.proofs.Common.{◌≡◌, ℕ, zero, suc, ◌+◌, Bool, true, false, if◌then◌else◌, List, [], ◌∷◌, ◌++◌, map, length, slice_get, Option, Some, IsTrue, refl, sym, ap, ◌∙◌, arith}
 use Rattle.std.specs.Prelude.{⊤, unwrap_or}
 use Rattle.fst_base.specs.Sorts.{Srt, s_unit, s_bool}
 use Rattle.fst_base.specs.Values.{Val, v_unit, v_bool, Has, HasSorts}
@@ -7,9 +7,9 @@ use Rattle.fst_base.specs.Primitives.{is_true}
 use mathlib.Core.List.{reverse_aux}
 use Rattle.fst_terms.specs.Terms.{Tm, t_var, t_bool}
 use Rattle.fst_terms.specs.Meaning.{Env, Meaning, value, lookup, Truth, AllTrue, IsValid, Vr, Sqt}
-use Rattle.fst_terms.specs.Same.{same_term, is_among, firsts}
+use Rattle.fst_terms.specs.Same.{same_term, is_among}
 use Rattle.fst_terms.specs.declared.flat.Mark.{Mark}
-use Rattle.fst_terms.specs.Flats.{Flt, cleared, atoms_in, all_atoms_in, parts_of_each, literals, sorts_of_vars, flat_of, truth_of, mark_of, reading, reads, AllRead, IsOpen}
+use Rattle.fst_terms.specs.Flats.{Flt, cleared, atoms_in, all_atoms_in, parts_of_each, literals, sorts_of_vars, flat_of, truth_of, mark_of, reads, AllRead, IsOpen}
 use Rattle.fst_terms.specs.Propositional.{SortPropositional, TmPropositional, FormulasPropositional, VarsPropositional, IsPropositional}
 use Rattle.fst_terms.proofs.MemberLemmas.{Includes, AllTm, all-append, firsts-include, firsts-all, all-at}
 use Rattle.fst_terms.proofs.PropositionalLemmas.{value-has, bool-value, cleared-propositional, cleared-value, Agrees, reading-is}
