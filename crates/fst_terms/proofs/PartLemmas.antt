@@ -5,7 +5,7 @@ use Rattle.fst_base.specs.declared.place.Pos.{Pos}
 use Rattle.fst_base.specs.declared.sort.Sort.{Sort}
 use Rattle.fst_base.specs.Sorts.{plain_sort}
 use Rattle.fst_terms.specs.Terms.{Tm, Tms, t_prim, t_app, t_let, row, plain_term, plain_terms, shift, shifts, subst, substs}
-use Rattle.fst_terms.specs.Indices.{Stands, lets}
+use Rattle.fst_terms.specs.Indices.{Stands, lets, lets_of}
 use Rattle.fst_terms.specs.Flats.{cleared, all_cleared}
 use Rattle.fst_terms.specs.declared.term.Term.{Term}
 use Rattle.fst_terms.specs.declared.term.Term.TheVariants as T
@@ -62,6 +62,9 @@ subst-Let-by at depth u x x' t t' v v' w is e f g =
     let twice : shift 0 (suc depth) u ≡ shift 0 1 (shift 0 depth u) = ap (λ n. shift 0 n u) one_more ∙ sym (shift-shift 0 depth 1 u) in
     let rest : plain_term v' ≡ subst (suc (at + depth)) (shift 0 1 (shift 0 depth u)) (plain_term v) = g ∙ ap₂ (λ i u. subst i u (plain_term v)) above twice in
     plain-term-Let x' t' v' ∙ ap (λ x. t_let x (plain_term t') (plain_term v')) e ∙ ap₂ (t_let x) f rest ∙ sym (ap (λ t. subst (at + depth) (shift 0 depth u) (plain_term t)) is ∙ ap (subst (at + depth) (shift 0 depth u)) (plain-term-Let x t v))
+
+pub lets-Prim : (o : Op) (S : Sort) (ts : List Term) (p : Pos) (w : Term) → w ≡ T.Prim o S ts p → lets (plain_term w) ≡ lets_of (plain_terms ts)
+lets-Prim o S ts p w is = ap (λ t. lets (plain_term t)) is ∙ ap lets (plain-term-Prim o S ts p)
 
 pub lets-If : (c t u w : Term) → w ≡ T.If c t u → lets (plain_term w) ≡ max (lets (plain_term c)) (max (lets (plain_term t)) (lets (plain_term u)))
 lets-If c t u w is = ap (λ t. lets (plain_term t)) is ∙ ap lets (plain-term-If c t u)

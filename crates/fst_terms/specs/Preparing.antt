@@ -1,14 +1,15 @@
 -- What the steps of preparing a sequent give.
-use Rattle.std.specs.Prelude.{List, ◌∷◌, ◌++◌}
+use Rattle.std.specs.Prelude.{Bool, List, ◌∷◌, ◌++◌, Option, None}
 use Rattle.fst_base.specs.declared.op.Op.{Op}
 use Rattle.fst_base.specs.declared.op.Op.TheVariants as op
 use Rattle.fst_base.specs.Sorts.{Srt, s_unit, s_bool}
 use Rattle.fst_terms.specs.Terms.{Tm, Tms, t_end, t_more}
 use Rattle.fst_terms.specs.Formulas.{sort_of}
 use Rattle.fst_terms.specs.Same.{firsts}
-use Rattle.fst_terms.specs.Flats.{Flt, all_atoms_in, parts_of_each, literals, sorts_of_vars}
+use Rattle.fst_terms.specs.Flats.{Flt, agree, reads, all_atoms_in, parts_of_each, literals, sorts_of_vars}
 use Rattle.fst_terms.specs.declared.atoms.Equation.{Equation}
 use Rattle.fst_terms.specs.declared.atoms.Equation.TheVariants as equation
+use Rattle.fst_terms.specs.declared.flat.Mark.{Mark}
 
 -- how an equation of terms of this sort is read
 abbrev pub equation_at : Srt → Equation
@@ -20,6 +21,11 @@ equation_at _ = equation.Atom
 abbrev pub operator_form : (Ss : List Srt) → Op → Tms → Equation
 operator_form Ss op.Eq (t_more t (t_more u t_end)) = equation_at (sort_of Ss t)
 operator_form Ss _ _ = equation.Atom
+
+-- the value of an equation of two bools under marks of the first atoms
+abbrev pub read_equation : Flt → List Mark → Tms → Option Bool
+read_equation f ms (t_more t (t_more u t_end)) = agree (reads f ms t) (reads f ms u)
+read_equation f ms _ = None
 
 -- the atoms of a flat form with these facts, after those that it has
 abbrev pub atoms_with : Flt → (extra : List Tm) → List Tm

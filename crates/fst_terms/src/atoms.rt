@@ -16,7 +16,7 @@ use std::alloc::Global;
 
 /// How an equation is read.
 #[derive(Clone, Copy)]
-enum Equation {
+pub enum Equation {
     /// One of units is true, and has no atoms.
     Units,
     /// One of bools is read through.
@@ -66,7 +66,7 @@ fn equation_of(vars: &[Var], term: &Term) -> Equation
 }
 
 /// How a term of an operator is read.
-fn operator_form(vars: &[Var], op: Op, args: &[Term]) -> Equation
+pub fn operator_form(vars: &[Var], op: Op, args: &[Term]) -> Equation
     requires { lets_of (plain_terms args.now) ≡ 0 }
     ensures { result ≡ operator_form (sorts_of_vars (map plain_var vars.now)) op (plain_terms args.now) }
 {
