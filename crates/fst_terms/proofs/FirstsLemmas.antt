@@ -16,11 +16,12 @@ listed-row (t ∷ ts) = ap (◌∷◌ t) (listed-row ts)
 pub same-plain : (t u : Term) (b : Bool) → Decides b (t ≡ u) → b ≡ same_term (plain_term t) (plain_term u)
 same-plain t u b d = same_from_decides b (same_term (plain_term t) (plain_term u)) d (decided-by (term-injective t u) (ap plain_term) (same_term-decides (plain_term t) (plain_term u)))
 
-found : (b c : Bool) → c ≡ true → (if b then true else c) ≡ true
+-- a test that goes on where the first one fails
+pub found : (b c : Bool) → c ≡ true → (if b then true else c) ≡ true
 found true c e = refl
 found false c e = e
 
-missed : (b c d : Bool) → (if b then true else c) ≡ false → (c ≡ false → d ≡ false) → (if b then true else d) ≡ false
+pub missed : (b c d : Bool) → (if b then true else c) ≡ false → (c ≡ false → d ≡ false) → (if b then true else d) ≡ false
 missed true c d e f = e
 missed false c d e f = f e
 

@@ -1,17 +1,21 @@
 -- The search for the first open branch: where it is cut, where it ends, and the two marks of the next atom.
-use Rattle.std.proofs.Common.{◌≡◌, ℕ, zero, suc, ◌+◌, ◌<◌, ◌⊎◌, inl, inr, Bool, true, false, if◌then◌else◌, List, [], ◌∷◌, ◌++◌, length, Option, Some, None, IsTrue, refl, sym, ap, ◌∙◌, subst, arith}
+use Rattle.std.proofs.Common.{◌≡◌, ℕ, zero, suc, ◌+◌, ◌<◌, ◌⊎◌, inl, inr, Bool, true, false, if◌then◌else◌, List, [], ◌∷◌, ◌++◌, length, get_or, take, map, Option, Some, None, IsTrue, refl, sym, ap, ◌∙◌, subst, arith, add-one}
 use Rattle.std.proofs.lemmas.Bool.{false≢true}
 use Rattle.std.proofs.lemmas.List.{append-nil, append_assoc, length-append}
 use Rattle.fst_base.specs.Sorts.{s_bool}
 use Rattle.fst_base.specs.Values.{v_unit, same_bool}
 use Rattle.fst_base.specs.Primitives.{is_true}
-use Rattle.fst_terms.specs.Terms.{Tm}
+use Rattle.fst_terms.specs.Terms.{Tm, row, plain_term}
+use Rattle.fst_terms.specs.Indices.{lets, lets_of}
 use Rattle.fst_terms.specs.Meaning.{Meaning, value, Sqt}
 use Rattle.fst_terms.specs.Flats.{Flt, flat_of, reads, AllRead, is_truth, AreTruths, IsOpen, rank, Earlier, IsFirstOpen}
 use Rattle.fst_terms.specs.Propositional.{IsPropositional, FormulasPropositional, TmPropositional}
-use Rattle.fst_terms.specs.Searching.{is_value, some_false, is_closed, NoneFrom, IsFirstFrom, IsPropositionalFlat}
+use Rattle.fst_terms.specs.Searching.{is_value, some_false, is_closed, NoneFrom, IsFirstFrom, IsPropositionalFlat, Searched}
 use Rattle.fst_terms.specs.declared.flat.Mark.{Mark}
 use Rattle.fst_terms.specs.declared.flat.Mark.TheVariants as mark
+use Rattle.fst_terms.specs.declared.term.Term.{Term}
+use Rattle.fst_terms.proofs.FirstsLemmas.{found, missed}
+use Rattle.fst_terms.proofs.PrepareLemmas.{no-lets, no-lets-each}
 use Rattle.fst_terms.proofs.MemberLemmas.{AllTm}
 use Rattle.fst_terms.proofs.ReadingLemmas.{reads-more}
 use Rattle.fst_terms.proofs.ValidLemmas.{sorts, AtomsAmong, formulas-prop, goal-prop, formulas-among, goal-among, world, branch-reads}
@@ -49,6 +53,28 @@ module _ (f : Flt) (ms rest : List Mark) where
 -- no branch is open that begins with marks under which a formula is false or the goal true
 pub closed-none : (f : Flt) (ms : List Mark) → is_closed f ms ≡ true → NoneFrom f ms
 closed-none f ms e = λ rest o. closed-more f ms rest (some_false f ms f.formulas) refl e o
+
+-- the test of a list of terms, one after the other
+module _ (f : Flt) (ms : List Mark) where
+  pub some_false-at : (ts : List Term) (k : ℕ) (d : Term) → k < length ts → is_value false (reads f ms (plain_term (get_or ts k d))) ≡ true → some_false f ms (map plain_term ts) ≡ true
+  some_false-at [] k d h e = absurd (omega arith)
+  some_false-at (t ∷ ts) zero d h e = rw e refl
+  some_false-at (t ∷ ts) (suc k) d h e = found (is_value false (reads f ms (plain_term t))) _ (some_false-at ts k d (omega arith) e)
+
+  some_false-suc : (ts : List Term) (k : ℕ) (d : Term) → k < length ts → some_false f ms (map plain_term (take k ts)) ≡ false → is_value false (reads f ms (plain_term (get_or ts k d))) ≡ false → some_false f ms (map plain_term (take (suc k) ts)) ≡ false
+  some_false-suc [] k d h e g = absurd (omega arith)
+  some_false-suc (t ∷ ts) zero d h e g = rw g refl
+  some_false-suc (t ∷ ts) (suc k) d h e g = missed (is_value false (reads f ms (plain_term t))) _ _ e (λ i. some_false-suc ts k d (omega arith) i g)
+
+  pub some_false-next : (ts : List Term) (k : ℕ) (d : Term) → k < length ts → some_false f ms (map plain_term (take k ts)) ≡ false → is_value false (reads f ms (plain_term (get_or ts k d))) ≡ false → some_false f ms (map plain_term (take (k + 1) ts)) ≡ false
+  some_false-next ts k d h e g = rw add-one (some_false-suc ts k d h e g)
+
+-- the formulas of such a flat form hold no let
+pub formulas-no-lets : (f : Flt) → IsPropositionalFlat f → lets_of (row f.formulas) ≡ 0
+formulas-no-lets f p = ap (λ g. lets_of (row g.formulas)) p.is ∙ no-lets-each (sorts p.sequent p.propositional) (flat_of p.sequent []).formulas (formulas-prop p.sequent p.propositional)
+
+pub goal-no-lets : (f : Flt) → IsPropositionalFlat f → lets f.goal ≡ 0
+goal-no-lets f p = ap (λ g. lets g.goal) p.is ∙ no-lets (sorts p.sequent p.propositional) (flat_of p.sequent []).goal s_bool (goal-prop p.sequent p.propositional)
 
 -- ---- all atoms are marked
 
@@ -163,6 +189,11 @@ module _ (f : Flt) (ms : List Mark) (short : length ms < length f.atoms) where
       before (mark.True ∷ rest) h o = none rest (subst (IsOpen f) (next mark.True rest) o)
       before (mark.False ∷ rest) h o = r.none_before rest (subst (λ os. Earlier os ns) (next mark.False rest) h) (subst (IsOpen f) (next mark.False rest) o)
       before (m ∷ rest) h o = absurd (false≢true (truths-at ms m rest o.truths))
+
+  -- what the search with the mark false leaves, where none has the mark true
+  pub searched-false : (new : List Mark) (found : Bool) → NoneFrom f (ms ++ mark.True ∷ []) → Searched f (ms ++ mark.False ∷ []) ms new found → Searched f ms ms new found
+  searched-false new true none r = first-false new none r
+  searched-false new false none r = (r.0, none-next none r.1)
 
 -- ---- the whole search
 

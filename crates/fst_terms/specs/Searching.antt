@@ -38,7 +38,7 @@ pub record IsFirstFrom (f : Flt) (ms ns : List Mark) : Type 0 where
   pub opens : IsOpen f ns
   pub none_before : (rest : List Mark) → Earlier (ms ++ rest) ns → IsOpen f (ms ++ rest) → ⊥
 
--- what the search under the old marks leaves: the first open branch, or the old marks where there is none
-abbrev pub Searched : Flt → (old new : List Mark) → (found : Bool) → Type 0
-Searched f old new true = IsFirstFrom f old new
-Searched f old new false = (new ≡ old) × NoneFrom f old
+-- what the search among the branches that begin with `front` leaves: the first open one, or the old marks where none is open
+abbrev pub Searched : Flt → (front old new : List Mark) → (found : Bool) → Type 0
+Searched f front old new true = IsFirstFrom f front new
+Searched f front old new false = (new ≡ old) × NoneFrom f front

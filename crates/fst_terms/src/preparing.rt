@@ -86,7 +86,10 @@ fn count(items: usize) -> Result<u32, OutOfMemory>
 
 /// The first with what the second gives. Where the second wants memory the first is let go here, so that the caller owns
 /// nothing at its exit.
-fn both<A: Drop, B: Drop>(first: A, second: Result<B, OutOfMemory>) -> Result<(A, B), OutOfMemory>
+pub fn both<A: Drop, B: Drop>(
+    first: A,
+    second: Result<B, OutOfMemory>,
+) -> Result<(A, B), OutOfMemory>
     ensures { IfOk result (λ pair. (pair.0 ≡ first) × (second ≡ Ok pair.1)) }
 {
     match second {
