@@ -1,4 +1,5 @@
 //! The top call: from words, a shelf and a sink to a text and a status.
 #![tactic(auto)]
 
+mod branches;
 mod elaborate;
