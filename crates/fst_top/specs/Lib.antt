@@ -1,3 +1,4 @@
+pub mod Branches
 pub mod Built
 pub mod Elaboration
 pub mod Elaborating
