@@ -12,3 +12,6 @@ pub mod FormInduction
 pub mod BodyInduction
 pub mod TypedTreeLemmas
 pub mod ProgramBuilt
+pub mod InstantiateLemmas
+pub mod WayLemmas
+pub mod GoalLemmas

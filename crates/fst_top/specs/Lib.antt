@@ -3,3 +3,5 @@ pub mod Elaboration
 pub mod Elaborating
 pub mod Scopes
 pub mod Functions
+pub mod Goals
+pub mod Ways
