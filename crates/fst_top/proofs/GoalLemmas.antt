@@ -1,5 +1,5 @@
 -- A built function is simple, and its goals are those of the walk over its simple text.
-use Rattle.std.proofs.Common.{◌≡◌, ℕ, zero, suc, Bool, true, false, if◌then◌else◌, List, [], ◌∷◌, ◌++◌, map, reverse, length, slice_get, Option, Some, None, refl, sym, ap, ap₂, ◌∙◌, subst}
+use Rattle.std.proofs.Common.{◌≡◌, ℕ, zero, suc, true, false, if◌then◌else◌, List, [], ◌∷◌, ◌++◌, map, reverse, length, slice_get, Option, Some, None, refl, sym, ap, ap₂, ◌∙◌}
 use Rattle.std.proofs.lemmas.List.{append-nil, reverse-reverse}
 use Rattle.fst_base.specs.declared.op.Op.TheVariants as op
 use Rattle.fst_base.specs.Sorts.{Srt, s_bool}
@@ -12,8 +12,8 @@ use Rattle.fst_program.specs.declared.goal.Choice.TheVariants as choice
 use Rattle.fst_program.specs.declared.goal.SiteKind.{SiteKind}
 use Rattle.fst_program.specs.declared.goal.SiteKind.TheVariants as kind
 use Rattle.fst_program.specs.Plain.{plain_fun}
-use Rattle.fst_program.specs.Texts.{Cm, c_ret, c_let, c_if, Prm, Fn, Prog, fun_at, if_there, is_user}
-use Rattle.fst_program.specs.Paths.{Gl, Way, CallWalk, Rest, all_raised, all_divisions, call_walk, choose, clause_terms, count, demands_of, divisions, divisor_sites, ensures_site, fun_goals, fun_walk, given, goal_site, input_vars, over, own_input, own_vars, raised, refinements, sides, start, suppose, suppose_all, term_sites, walk}
+use Rattle.fst_program.specs.Texts.{Cm, c_ret, c_let, c_if, Fn, Prog, fun_at, if_there, is_user}
+use Rattle.fst_program.specs.Paths.{Gl, Way, CallWalk, Rest, all_raised, all_divisions, call_walk, clause_terms, count, demands_of, divisions, divisor_sites, ensures_site, fun_goals, fun_walk, given, goal_site, input_vars, over, own_input, own_vars, raised, sides, start, suppose_all, term_sites, walk}
 use Rattle.fst_top.specs.Built.{CmBuilt, ClauseBuilt, FnBuilt, sorts_of, var_of}
 use Rattle.fst_top.specs.Goals.{TmSimple, AllSimple, CmSimple, GivenSimple, FunSimple, State, bound, supposed, sides_of, ends, end_goal, end_of, start_of, simple_goals}
 use Rattle.fst_top.proofs.BuiltGood.{all-raised-none, no-refinements}

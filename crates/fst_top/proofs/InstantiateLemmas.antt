@@ -1,6 +1,5 @@
 -- Terms put in for the variables of simple terms, over the code's own lists.
-use Rattle.std.proofs.Common.{◌≡◌, ℕ, zero, suc, ◌<◌, List, [], ◌∷◌, ◌++◌, map, reverse, length, get_or, refl, sym, ap, ap₂, ◌∙◌, subst, arith}
-use Rattle.std.proofs.lemmas.List.{map-append, reverse-append}
+use Rattle.std.proofs.Common.{◌≡◌, ℕ, zero, suc, ◌<◌, List, [], ◌∷◌, map, length, get_or, refl, sym, ap, ap₂, ◌∙◌, subst, arith}
 use Rattle.fst_base.specs.declared.op.Op.{Op}
 use Rattle.fst_base.specs.declared.op.Op.TheVariants as op
 use Rattle.fst_base.specs.declared.place.Pos.{Pos}
@@ -8,9 +7,9 @@ use Rattle.fst_base.specs.declared.sort.Sort.{Sort}
 use Rattle.fst_base.specs.Sorts.{Srt, plain_sort}
 use Rattle.fst_terms.specs.declared.term.Term.{Term}
 use Rattle.fst_terms.specs.declared.term.Term.TheVariants as T
-use Rattle.fst_terms.specs.Terms.{Tm, Tms, t_var, t_prim, t_more, row, plain_term, plain_terms}
-use Rattle.fst_terms.specs.Formulas.{make, put, puts, vars_from}
-use Rattle.fst_terms.proofs.PlainLemmas.{plain-term-Var, plain-term-Prim}
+use Rattle.fst_terms.specs.Terms.{Tm, Tms, t_prim, t_more, row, plain_term, plain_terms}
+use Rattle.fst_terms.specs.Formulas.{make, put, puts}
+use Rattle.fst_terms.proofs.PlainLemmas.{plain-term-Prim}
 use Rattle.fst_top.specs.Goals.{TmSimple, AllSimple}
 
 -- an equation is no selector

@@ -15,3 +15,5 @@ pub mod ProgramBuilt
 pub mod InstantiateLemmas
 pub mod WayLemmas
 pub mod GoalLemmas
+pub mod PropositionalGoals
+pub mod JoinedGoals

@@ -1,5 +1,5 @@
 -- The goal at the end of a way and the goals of an `if`, from what the code holds.
-use Rattle.std.proofs.Common.{◌≡◌, ℕ, List, [], ◌∷◌, map, reverse, refl, sym, ap, ap₂, ◌∙◌, ◌++◌, false, append_assoc}
+use Rattle.std.proofs.Common.{◌≡◌, ℕ, List, [], ◌∷◌, map, refl, sym, ap, ap₂, ◌∙◌, ◌++◌, false, append_assoc}
 use Rattle.std.proofs.lemmas.List.{reverse-reverse}
 use Rattle.fst_program.specs.declared.comp.Comp.{Comp}
 use Rattle.fst_program.specs.declared.comp.Comp.TheVariants as V

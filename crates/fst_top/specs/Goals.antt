@@ -3,6 +3,7 @@ use Rattle.std.specs.Prelude.{ℕ, true, false, Bool, List, [], ◌∷◌, ◌++
 use Rattle.fst_base.specs.declared.op.Op.TheVariants as op
 use Rattle.fst_terms.specs.Terms.{Tm, Tms, t_var, t_bool, t_unit, t_prim, t_if, t_end, t_more}
 use Rattle.fst_terms.specs.Formulas.{negation, put, vars_from}
+use Rattle.fst_terms.specs.Propositional.{IsPropositional}
 use Rattle.fst_program.specs.declared.goal.SiteKind.TheVariants as kind
 use Rattle.fst_program.specs.declared.goal.Choice.{Choice}
 use Rattle.fst_program.specs.declared.goal.Choice.TheVariants as choice
@@ -91,3 +92,10 @@ start_of f = record { terms = vars_from 0 (length f.params); hyps = given f.need
 
 abbrev pub simple_goals : (k : ℕ) → Fn → List Gl
 simple_goals k f = ends (end_of k f) f.body (start_of f)
+
+-- ---- propositional goals
+
+-- every goal's sequent is propositional
+abbrev pub GoalsPropositional : List Gl → Type 0
+GoalsPropositional [] = ⊤
+GoalsPropositional (g ∷ gs) = IsPropositional g.sequent × GoalsPropositional gs

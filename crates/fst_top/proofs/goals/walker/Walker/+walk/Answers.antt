@@ -1,6 +1,5 @@
-use Rattle.std.proofs.Common.{◌≡◌, map, subst, ◌∙◌}
+use Rattle.std.proofs.Common.{◌≡◌, subst, ◌∙◌}
 use Rattle.fst_program.specs.declared.goal.Choice.TheVariants as choice
-use Rattle.fst_program.specs.Paths.{plain_goal}
 use Rattle.fst_program.specs.Plain.{plain_fun}
 use Rattle.fst_terms.specs.Formulas.{negation, put}
 use Rattle.fst_terms.specs.Terms.{plain_term}
