@@ -1,6 +1,5 @@
 -- Induction over bodies, variant by variant; parts without what stands in them.
-use Rattle.std.proofs.Common.{◌≡◌, ℕ, List, [], ◌∷◌, map, Option, Some, None, refl, sym, subst, All}
-use Rattle.std.proofs.lemmas.List.Elements.{All-nil, All-cons}
+use Rattle.std.proofs.Common.{List, Option, sym, subst}
 use Rattle.fst_base.specs.declared.place.Pos.{Pos}
 use Rattle.fst_reader.specs.declared.form.Form.{Form}
 use Rattle.fst_reader.specs.declared.sort.SortTree.{SortTree}

@@ -1,10 +1,10 @@
 -- Where the goals of a built program are valid, its functions are good.
-use Rattle.std.proofs.Common.{◌≡◌, ℕ, zero, suc, ◌+◌, ◌-◌, ◌<◌, Bool, true, false, if◌then◌else◌, List, [], ◌∷◌, ◌++◌, nat_lt, map, reverse, length, Option, Some, None, refl, sym, ap, ap₂, ◌∙◌, subst, arith, ◌⊎◌, inl, inr}
+use Rattle.std.proofs.Common.{◌≡◌, ℕ, zero, suc, ◌+◌, ◌-◌, ◌<◌, Bool, true, false, if◌then◌else◌, List, [], ◌∷◌, ◌++◌, map, reverse, length, Option, Some, None, refl, sym, ap, ap₂, ◌∙◌, subst, arith, ◌⊎◌, inl, inr}
 use Rattle.fst_base.specs.declared.op.Op.TheVariants as op
 use Rattle.fst_base.specs.Sorts.{Srt, s_bool}
 use Rattle.fst_base.specs.Values.{Val, v_unit, v_bool, HasSorts, same}
 use Rattle.fst_base.specs.Primitives.{is_true}
-use Rattle.fst_terms.specs.Terms.{Tm, Tms, t_var, t_int, t_bool, t_unit, t_prim, t_if, t_app, t_let, t_end, t_more, shift, shifts}
+use Rattle.fst_terms.specs.Terms.{Tm, t_var, t_int, t_bool, t_unit, t_prim, t_if, t_app, t_let, t_end, t_more}
 use Rattle.fst_terms.specs.Meaning.{Env, Meaning, value, AllTrue, HasVars, Vr}
 use Rattle.fst_terms.specs.Formulas.{negation, put, vars_from}
 use Rattle.fst_terms.proofs.IndexLemmas.{shift-zero}
@@ -59,11 +59,11 @@ all-raised-none n w (t ∷ ts) e = ap₂ ◌∷◌ (raised-none n w t e) (all-ra
 
 -- ---- goals
 
-valid-left : (M : Meaning) (gs hs : List Gl) → GoalsValid M (gs ++ hs) → GoalsValid M gs
+pub valid-left : (M : Meaning) (gs hs : List Gl) → GoalsValid M (gs ++ hs) → GoalsValid M gs
 valid-left M [] hs h = tt
 valid-left M (g ∷ gs) hs h = (h.0, valid-left M gs hs h.1)
 
-valid-right : (M : Meaning) (gs hs : List Gl) → GoalsValid M (gs ++ hs) → GoalsValid M hs
+pub valid-right : (M : Meaning) (gs hs : List Gl) → GoalsValid M (gs ++ hs) → GoalsValid M hs
 valid-right M [] hs h = h
 valid-right M (g ∷ gs) hs h = valid-right M gs hs h.1
 
@@ -228,7 +228,7 @@ have-length [] (v ∷ vs) h = absurd h
 have-length (p ∷ ps) [] h = absurd h
 have-length (p ∷ ps) (v ∷ vs) h = ap suc (have-length ps vs h.1)
 
-var-sorts : (ps : List Prm) → map (λ (x : Vr). x.sort) (map (λ (p : Prm). record { name = p.name; sort = p.sort }) ps) ≡ map (λ p. p.sort) ps
+pub var-sorts : (ps : List Prm) → map (λ (x : Vr). x.sort) (map (λ (p : Prm). record { name = p.name; sort = p.sort }) ps) ≡ map (λ p. p.sort) ps
 var-sorts [] = refl
 var-sorts (p ∷ ps) = ap (λ Ss. p.sort ∷ Ss) (var-sorts ps)
 

@@ -1,5 +1,5 @@
 -- Induction over forms and bodies, variant by variant.
-use Rattle.std.proofs.Common.{◌≡◌, ℕ, ℤ, Bool, List, [], ◌∷◌, map, refl, sym, subst, All}
+use Rattle.std.proofs.Common.{ℤ, Bool, List, [], ◌∷◌, map, sym, subst, All}
 use Rattle.std.proofs.lemmas.List.Elements.{All-nil, All-cons}
 use Rattle.fst_base.specs.declared.op.Op.{Op}
 use Rattle.fst_base.specs.declared.place.Pos.{Pos}

@@ -1,12 +1,9 @@
 -- A function of a tree from its parts, and the functions of a program one after another.
-use Rattle.std.proofs.Common.{◌≡◌, ℕ, suc, ◌≤◌, Bool, true, false, List, [], ◌∷◌, ◌++◌, map, length, nat_le, Option, Some, None, refl, sym, ap, ◌∙◌, arith}
-use Rattle.fst_base.specs.Sorts.{Srt, same_sort}
-use Rattle.fst_program.specs.declared.effect.Effect.TheVariants as effect
+use Rattle.std.proofs.Common.{◌≡◌, ℕ, suc, ◌≤◌, true, List, [], ◌∷◌, ◌++◌, map, length, nat_le, Option, Some, None, refl, ap, ◌∙◌}
 use Rattle.std.proofs.Common.{rules, tests}
 use Rattle.fst_program.specs.declared.fun.Fun.{Fun}
 use Rattle.fst_program.specs.declared.fun.Param.{Param}
 use Rattle.fst_program.specs.Plain.{plain_fun, plain_param}
-use Rattle.fst_program.specs.Texts.{Prm, Fn}
 use Rattle.std.proofs.Common.{reverse}
 use Rattle.std.proofs.lemmas.List.{map-append, reverse-append}
 use Rattle.fst_reader.specs.declared.decl.Decl.{Decl}
@@ -14,9 +11,9 @@ use Rattle.fst_reader.specs.declared.decl.FunTree.{FunTree}
 use Rattle.fst_reader.specs.declared.decl.ParamTree.{ParamTree}
 use Rattle.fst_reader.specs.declared.word.Word.{Word}
 use Rattle.fst_top.specs.Built.{var_of}
-use Rattle.fst_top.specs.Elaboration.{clause_of, fun_decl, fun_of_tree, funs_from, given_some, most_funs, program_of, is_blank, is_named, only_if, param_of, params_of_trees, result_name, scope_of, sort_of_tree, text_of}
+use Rattle.fst_top.specs.Elaboration.{fun_decl, fun_of_tree, funs_from, given_some, most_funs, program_of, is_blank, is_named, only_if, param_of, params_of_trees, scope_of}
 use Rattle.std.proofs.Common.{not, ◌||◌}
-use Rattle.fst_top.specs.Functions.{Parts, has_built_head, next_fun, next_param, parts_of, result_var}
+use Rattle.fst_top.specs.Functions.{next_fun, next_param}
 use Rattle.fst_top.proofs.GatheredLemmas.{prepended, kept}
 
 -- ---- lists

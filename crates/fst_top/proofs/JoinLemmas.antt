@@ -5,7 +5,10 @@ use Rattle.std.proofs.lemmas.List.{append-nil, length-map}
 use Rattle.fst_terms.specs.Meaning.{Meaning, IsValid}
 use Rattle.fst_terms.specs.declared.flat.Mark.{Mark}
 use Rattle.fst_program.specs.Texts.{Fn, Prog, fun_at, if_there}
-use Rattle.fst_program.specs.Paths.{Gl, fun_goals, goals_from, goals_of, GoalsValid}
+use Rattle.fst_program.specs.declared.fun.Program.{Program}
+use Rattle.fst_program.specs.declared.goal.Goal.{Goal}
+use Rattle.fst_program.specs.Plain.{plain_fun, plain_program}
+use Rattle.fst_program.specs.Paths.{Gl, plain_goal, fun_goals, goals_from, goals_of, GoalsValid}
 use Rattle.fst_program.specs.Good.{Good, AllGood}
 use Rattle.fst_reader.specs.declared.word.Word.{Word}
 use Rattle.fst_reader.specs.declared.decl.Decl.{Decl}
@@ -169,3 +172,10 @@ program-few ds P e =
     let long : length P.funs ≡ length ds = ap (λ (Q : Prog). length Q.funs) (sym made) ∙ length-map funs.0 Some ∙ funs-length 0 [] ds funs.0 funs.1.0 in
     let most : length ds ≤ 1000 = grind (arith, few.0) in
     omega (arith, long, most)
+
+pub few-funs : (ds : List (Decl Word)) (p : Program) → program_of ds ≡ Some (plain_program p) → length p.funs ≤ 1000
+few-funs ds p e = let few = program-few ds (plain_program p) e in let l = length-map p.funs (λ f. Some (plain_fun f)) in omega (arith, few, l)
+
+pub none-valid : (gs : List Goal) → length gs ≡ 0 → (M : Meaning) → GoalsValid M (map plain_goal gs)
+none-valid [] e M = tt
+none-valid (g ∷ gs) e M = absurd (omega (arith, e))

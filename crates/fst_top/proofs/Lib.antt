@@ -17,3 +17,7 @@ pub mod BodyInduction
 pub mod TypedTreeLemmas
 pub mod ProgramBuilt
 pub mod JoinLemmas
+pub mod InstantiateLemmas
+pub mod WayLemmas
+pub mod GoalLemmas
+pub mod PropositionalGoals

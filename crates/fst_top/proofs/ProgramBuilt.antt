@@ -1,5 +1,5 @@
 -- Each elaborated program is built.
-use Rattle.std.proofs.Common.{◌≡◌, ℕ, zero, suc, Bool, true, false, not, ◌&&◌, ◌||◌, nat_eq, nat_le, List, [], ◌∷◌, ◌++◌, map, reverse, length, slice_get, Option, Some, None, refl, sym, ap, ◌∙◌, subst}
+use Rattle.std.proofs.Common.{◌≡◌, ℕ, zero, suc, false, not, ◌&&◌, ◌||◌, nat_eq, nat_le, List, [], ◌∷◌, ◌++◌, map, length, slice_get, Option, Some, None, refl, sym, ◌∙◌, subst}
 use mathlib.Core.List.{reverse_aux}
 use Rattle.fst_base.specs.Sorts.{Srt, s_unit, s_bool, same_sort}
 use Rattle.fst_base.proofs.SortLemmas.{same_sort-decides}
@@ -7,7 +7,7 @@ use Rattle.fst_terms.specs.Terms.{Tm}
 use Rattle.fst_terms.specs.Meaning.{Vr}
 use Rattle.fst_terms.specs.Propositional.{SortPropositional, TmPropositional, VarsPropositional}
 use Rattle.fst_program.specs.declared.effect.Effect.TheVariants as effect
-use Rattle.fst_program.specs.Texts.{Prm, Fn, Prog, fun_at, if_there}
+use Rattle.fst_program.specs.Texts.{Prm, Fn, Prog, if_there}
 use Rattle.fst_reader.specs.declared.decl.Decl.{Decl}
 use Rattle.fst_reader.specs.declared.decl.FunTree.{FunTree}
 use Rattle.fst_reader.specs.declared.decl.ParamTree.{ParamTree}
@@ -16,7 +16,7 @@ use Rattle.fst_reader.specs.declared.sort.SortTree.{SortTree, out-SortTree}
 use Rattle.fst_reader.specs.declared.sort.SortTree.TheOpen as S
 use Rattle.fst_reader.specs.declared.word.Word.{Word}
 use Rattle.fst_top.specs.Built.{CmBuilt, ParamsBuilt, ClauseBuilt, FnBuilt, IsBuilt, sorts_of, var_of}
-use Rattle.fst_top.specs.Elaboration.{Scope, clause_of, fun_decl, fun_of_tree, funs_from, given_some, is_blank, is_named, is_none, is_pure_name, most_funs, only_if, param_of, params_of_trees, program_of, result_name, scope_of, sort_layer, sort_of_tree, term_of, text_of, where_none}
+use Rattle.fst_top.specs.Elaboration.{Scope, clause_of, fun_decl, fun_of_tree, funs_from, is_blank, is_named, is_none, is_pure_name, most_funs, param_of, params_of_trees, program_of, result_name, scope_of, sort_layer, sort_of_tree, term_of, text_of, where_none}
 use Rattle.fst_top.proofs.TypingLemmas.{sorts, some-given, some-only, some-same}
 use Rattle.fst_top.proofs.TypedTreeLemmas.{form-typed, body-typed}
 

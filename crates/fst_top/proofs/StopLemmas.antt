@@ -1,5 +1,5 @@
 -- A step that stops where one of its own steps does.
-use Rattle.std.proofs.Common.{◌≡◌, Option, Some, None, Ok, Err}
+use Rattle.std.proofs.Common.{◌≡◌, Option, None, Err}
 use Rattle.fst_top.specs.declared.elaborate.stop.Stop.{Stop}
 use Rattle.fst_top.specs.declared.elaborate.stop.Stop.TheVariants as stop
 use Rattle.fst_top.specs.Elaborating.{Gives}

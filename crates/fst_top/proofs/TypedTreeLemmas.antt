@@ -6,7 +6,7 @@ use Rattle.fst_base.specs.declared.op.Op.{Op}
 use Rattle.fst_base.specs.declared.op.Op.TheVariants as op
 use Rattle.fst_base.specs.Sorts.{Srt, s_bool, same_sort}
 use Rattle.fst_base.proofs.SortLemmas.{same_sort-decides}
-use Rattle.fst_terms.specs.Propositional.{SortPropositional, TmPropositional, VarsPropositional}
+use Rattle.fst_terms.specs.Propositional.{SortPropositional, VarsPropositional}
 use Rattle.fst_program.specs.Texts.{c_ret, c_let, c_if}
 use Rattle.fst_reader.specs.declared.body.BodyTree.{BodyTree}
 use Rattle.fst_reader.specs.declared.body.BodyTree.TheVariants as V
@@ -16,7 +16,7 @@ use Rattle.fst_reader.specs.declared.form.FormNode.TheOpen as F
 use Rattle.fst_reader.specs.declared.sort.SortTree.{SortTree}
 use Rattle.fst_reader.specs.declared.word.Word.{Word}
 use Rattle.fst_top.specs.Built.{CmBuilt}
-use Rattle.fst_top.specs.Elaboration.{Typed, TypedText, Scope, node_layer, term_of, part_of, text_of, let_of, branch_of, given_some, only_if}
+use Rattle.fst_top.specs.Elaboration.{Typed, TypedText, Scope, node_layer, term_of, part_of, text_of, branch_of}
 use Rattle.fst_top.proofs.BodyInduction.{body_by_parts}
 use Rattle.fst_top.proofs.BodyLemmas.{text-Let, text-If, text-Part, text-annotated, text-GhostLet, text-Assert, text-Match, part-Block, part-Call, part-Reify, part-Reflect, part-Term}
 use Rattle.fst_top.proofs.ElaborationLemmas.{term-Ident, term-Int, term-Bool, term-Unit, term-Prim, term-If, term-App, term-Let}

@@ -1,13 +1,9 @@
 -- Each elaborated term has its sort, and each elaborated program is built.
-use Rattle.std.proofs.Common.{◌≡◌, ℕ, zero, suc, ◌+◌, Bool, true, false, if◌then◌else◌, List, [], ◌∷◌, ◌++◌, map, reverse, slice_get, Option, Some, None, refl, sym, ap, ap₂, ◌∙◌, subst, arith, ◌&&◌, not, nat_eq, nat_le, length}
-use Rattle.std.specs.Prelude.{⊤}
-use mathlib.Core.List.{reverse_aux}
-use Rattle.fst_base.specs.declared.op.Op.{Op}
+use Rattle.std.proofs.Common.{◌≡◌, ℕ, suc, ◌+◌, Bool, true, false, if◌then◌else◌, List, [], ◌∷◌, map, slice_get, Option, Some, None, refl, sym, ap, ◌∙◌, subst, arith, ◌&&◌}
 use Rattle.fst_base.specs.declared.op.Op.TheVariants as op
-use Rattle.fst_base.specs.Sorts.{Srt, s_unit, s_bool, same_sort}
+use Rattle.fst_base.specs.Sorts.{Srt, s_bool, same_sort}
 use Rattle.fst_base.proofs.SortLemmas.{same_sort-decides}
-use Rattle.fst_terms.specs.Terms.{Tm, t_var, t_prim, t_if, row}
-use Rattle.fst_terms.specs.Meaning.{Vr}
+use Rattle.fst_terms.specs.Terms.{t_var, t_prim, t_if, row}
 use Rattle.fst_terms.specs.Same.{same_name}
 use Rattle.fst_terms.specs.Propositional.{SortPropositional, TmPropositional, VarsPropositional}
 use Rattle.fst_top.specs.Elaboration.{Typed, Scope, variable, typed, equation_of, if_of, given_some, only_if}

@@ -1,8 +1,7 @@
 -- What the steps of an answer give.
-use Rattle.std.specs.Prelude.{◌≡◌, ◌<◌, ◌^◌, ℕ, List, [], ◌∷◌, length, Option, Some, None, ⊤}
+use Rattle.std.specs.Prelude.{◌≡◌, ◌<◌, ◌^◌, ℕ, List, [], ◌∷◌, length, Option, Some, None}
 use Rattle.fst_terms.specs.Meaning.{Meaning, IsValid}
 use Rattle.fst_terms.specs.Flats.{flat_of, IsFirstOpen}
-use Rattle.fst_terms.specs.Propositional.{IsPropositional}
 use Rattle.fst_terms.specs.declared.flat.Mark.{Mark}
 use Rattle.fst_program.specs.Texts.{Prog}
 use Rattle.fst_program.specs.Paths.{Gl, GoalsValid}
@@ -16,11 +15,6 @@ use Rattle.fst_top.specs.Answers.{Checked, IsNoOf}
 -- the answer of `check` over the text
 abbrev pub IsAnswer : (text : List ℕ) → Answer → Type 0
 IsAnswer text a = Checked text (number_of a.status) a.text
-
--- the goals' sequents are propositional
-abbrev pub AllPropositional : List Gl → Type 0
-AllPropositional [] = ⊤
-AllPropositional (g ∷ gs) = IsPropositional g.sequent × AllPropositional gs
 
 -- all goals are valid, and there are so many; or the text is a no about the first that isn't
 abbrev pub IsJudged : (text : List ℕ) → Prog → List Gl → Judged → Type 0

@@ -11,4 +11,5 @@ pub mod Answering
 pub mod Commands
 pub mod Outcomes
 pub mod Functions
-pub mod Branches
+pub mod Goals
+pub mod Ways

@@ -11,7 +11,8 @@ ghost use Rattle.fst_base.specs.declared.place.Pos as p;
 ghost use Rattle.std.specs.Prelude.{Err};
 ghost use Rattle.fst_top.specs.Built.{IsBuilt};
 ghost use Rattle.fst_top.specs.Answers.{Reads, longest};
-ghost use Rattle.fst_top.specs.Answering.{IsAnswer, IsJudged, IsJudgedGoal, AllPropositional};
+ghost use Rattle.fst_top.specs.Goals.{GoalsPropositional};
+ghost use Rattle.fst_top.specs.Answering.{IsAnswer, IsJudged, IsJudgedGoal};
 ghost use Rattle.fst_top.specs.Printed.{not_built_text, no_text};
 
 use crate::branches::{judge, Verdict};
@@ -139,7 +140,7 @@ fn judge_function(alloc: Global, text: &[u8], program: &Program, fun: u32) -> Re
 
 fn judge_goals(alloc: Global, text: &[u8], program: &Program, goals: &[Goal]) -> Result<Judged, OutOfMemory>
     requires short { length text.now ≤ longest }
-    requires built { AllPropositional (map plain_goal goals.now) }
+    requires built { GoalsPropositional (map plain_goal goals.now) }
     ensures { IfOk result (IsJudged text.now (plain_program program.now) (map plain_goal goals.now)) }
 {
     let mut rest = goals;

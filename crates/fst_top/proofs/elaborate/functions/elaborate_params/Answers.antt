@@ -1,10 +1,9 @@
-use Rattle.std.proofs.Common.{◌≡◌, [], ◌∷◌, ◌++◌, map, Option, Some, None, Err, refl, sym, ap, ap₂, ◌∙◌, rules, arith}
+use Rattle.std.proofs.Common.{◌≡◌, [], ◌∷◌, map, Some, Err, refl, sym, ap, ap₂, ◌∙◌, rules, arith}
 use Rattle.std.proofs.lemmas.Grind.{common_steps}
 use Rattle.std.proofs.lemmas.Option.{slice_get_read}
 use Rattle.fst_program.specs.declared.fun.Param.{Param}
 use Rattle.fst_program.specs.Plain.{plain_param}
 use Rattle.fst_program.specs.Texts.{Prm}
-use Rattle.fst_top.specs.Built.{var_of}
 use Rattle.fst_top.specs.Elaboration.{params_of_trees}
 use Rattle.fst_top.specs.Elaborating.{Gives}
 use Rattle.fst_top.specs.Functions.{first_plain_param, next_param, plain_params}
