@@ -1,20 +1,20 @@
 -- A branch of a propositional sequent has no clash: its marks are those of an environment.
-use Rattle.std.proofs.Common.{◌≡◌, ℕ, suc, Bool, true, false, if◌then◌else◌, List, [], ◌∷◌, ◌++◌, length, map, Option, Some, None, IsTrue, refl, sym, ap, ap₂, ◌∙◌, subst, arith}
+use Rattle.std.proofs.Common.{◌≡◌, Bool, true, false, if◌then◌else◌, List, [], ◌∷◌, ◌++◌, length, map, Some, IsTrue, refl, sym, ap, ap₂, ◌∙◌, arith}
 use Rattle.std.specs.Prelude.{⊤}
 use Rattle.std.proofs.lemmas.Bool.{false≢true}
-use Rattle.fst_base.specs.Values.{Val, v_unit, v_bool}
+use Rattle.fst_base.specs.Values.{v_bool}
 use Rattle.fst_base.specs.Primitives.{is_true}
 use Rattle.fst_terms.specs.Terms.{Tm, t_bool}
-use Rattle.fst_terms.specs.Meaning.{Env, Meaning, value, Sqt}
+use Rattle.fst_terms.specs.Meaning.{Meaning, value, Sqt}
 use Rattle.fst_terms.specs.Same.{same_term, is_among, firsts}
-use Rattle.fst_terms.specs.Flats.{Flt, cleared, all_atoms_in, flat_of, truth_of, mark_of, Clash, is_truth, AreTruths}
+use Rattle.fst_terms.specs.Flats.{cleared, all_atoms_in, flat_of, truth_of, mark_of, Clash, is_truth, AreTruths}
 use Rattle.fst_terms.specs.Propositional.{IsPropositional}
 use Rattle.fst_terms.specs.declared.flat.Mark.{Mark}
 use Rattle.fst_terms.specs.declared.flat.Mark.TheVariants as mark
 use Rattle.fst_terms.proofs.SameLemmas.{same_term-decides}
 use Rattle.fst_terms.proofs.MemberLemmas.{AllTm, all-append}
-use Rattle.fst_terms.proofs.BranchLemmas.{BoolVar, mark_at, marks_at, joined-values}
-use Rattle.fst_terms.proofs.ValidLemmas.{sorts, flat, atoms-bool, terms-units, look, world, world-has, atom-value}
+use Rattle.fst_terms.proofs.BranchLemmas.{BoolVar, marks_at, joined-values}
+use Rattle.fst_terms.proofs.ValidLemmas.{sorts, atoms-bool, terms-units, look, world, world-has, atom-value}
 
 -- ---- first occurrences are different terms
 

@@ -22,6 +22,13 @@ use Rattle.fst_terms.proofs.PropositionalLemmas.{cleared-propositional}
 pub given : {A E : Type 0} (P : A → Type 0) (r : Result A E) (x : A) → IfOk r P → r ≡ Ok x → P x
 given P r x h e = subst (λ r. IfOk r P) e h
 
+-- the goal and the hypotheses with cleared places, as they are handed on
+pub goal-cleared : {E : Type 0} (t made goal : Term) (result : Result Term E) → IfOk result (λ made. (n : ℕ) → plain_term made ≡ cleared n (plain_term t)) → result ≡ Ok made → goal ≡ made → (n : ℕ) → plain_term goal ≡ cleared n (plain_term t)
+goal-cleared t made goal result h e f n = ap plain_term f ∙ given (λ made. (n : ℕ) → plain_term made ≡ cleared n (plain_term t)) result made h e n
+
+pub hyps-cleared : {E : Type 0} (ts items made : List Term) (result : Result (List Term) E) → IfOk result (λ made. (n : ℕ) → map plain_term made ≡ map (λ t. cleared n (plain_term t)) items) → result ≡ Ok made → items ≡ ts → (n : ℕ) → map plain_term made ≡ map (λ t. cleared n (plain_term t)) ts
+hyps-cleared ts items made result h e f n = given (λ made. (n : ℕ) → map plain_term made ≡ map (λ t. cleared n (plain_term t)) items) result made h e n ∙ ap (map (λ t. cleared n (plain_term t))) f
+
 -- ---- propositional terms hold no let
 
 pub no-lets : (Ss : List Srt) (t : Tm) (S : Srt) → TmPropositional Ss t S → lets t ≡ 0

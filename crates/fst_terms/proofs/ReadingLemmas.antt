@@ -8,7 +8,6 @@ use Rattle.fst_base.specs.declared.op.Op.TheVariants as op
 use Rattle.fst_base.specs.declared.place.Pos.{Pos}
 use Rattle.fst_base.specs.declared.sort.Sort.{Sort}
 use Rattle.fst_base.specs.Sorts.{Srt, s_unit, s_bool, s_int, s_a, s_b, s_pair, s_opt, s_list, s_either, plain_sort}
-use Rattle.fst_base.specs.Values.{same_bool}
 use Rattle.fst_terms.specs.Terms.{Tm, Tms, t_var, t_int, t_bool, t_unit, t_prim, t_if, t_app, t_let, t_end, t_more, plain_term, plain_terms}
 use Rattle.fst_terms.specs.Formulas.{sort_of}
 use Rattle.fst_terms.specs.Same.{same_term}

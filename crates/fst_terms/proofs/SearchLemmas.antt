@@ -1,15 +1,14 @@
 -- The search for the first open branch: where it is cut, where it ends, and the two marks of the next atom.
-use Rattle.std.proofs.Common.{◌≡◌, ℕ, zero, suc, ◌+◌, ◌<◌, ◌⊎◌, inl, inr, Bool, true, false, if◌then◌else◌, List, [], ◌∷◌, ◌++◌, length, get_or, take, map, Option, Some, None, IsTrue, refl, sym, ap, ◌∙◌, subst, arith, add-one}
+use Rattle.std.proofs.Common.{◌≡◌, ℕ, zero, suc, ◌+◌, ◌<◌, inl, inr, Bool, true, false, if◌then◌else◌, List, [], ◌∷◌, ◌++◌, length, get_or, take, map, Option, Some, None, IsTrue, refl, sym, ap, ◌∙◌, subst, arith, add-one}
 use Rattle.std.proofs.lemmas.Bool.{false≢true}
 use Rattle.std.proofs.lemmas.List.{append-nil, append_assoc, length-append}
 use Rattle.fst_base.specs.Sorts.{s_bool}
-use Rattle.fst_base.specs.Values.{v_unit, same_bool}
-use Rattle.fst_base.specs.Primitives.{is_true}
+use Rattle.fst_base.specs.Values.{v_unit}
 use Rattle.fst_terms.specs.Terms.{Tm, row, plain_term}
 use Rattle.fst_terms.specs.Indices.{lets, lets_of}
-use Rattle.fst_terms.specs.Meaning.{Meaning, value, Sqt}
-use Rattle.fst_terms.specs.Flats.{Flt, flat_of, reads, AllRead, is_truth, AreTruths, IsOpen, rank, Earlier, IsFirstOpen}
-use Rattle.fst_terms.specs.Propositional.{IsPropositional, FormulasPropositional, TmPropositional}
+use Rattle.fst_terms.specs.Meaning.{Meaning, Sqt}
+use Rattle.fst_terms.specs.Flats.{Flt, flat_of, reads, AllRead, is_truth, AreTruths, IsOpen, Earlier, IsFirstOpen}
+use Rattle.fst_terms.specs.Propositional.{IsPropositional, FormulasPropositional}
 use Rattle.fst_terms.specs.Searching.{is_value, some_false, is_closed, NoneFrom, IsFirstFrom, IsPropositionalFlat, Searched}
 use Rattle.fst_terms.specs.declared.flat.Mark.{Mark}
 use Rattle.fst_terms.specs.declared.flat.Mark.TheVariants as mark
@@ -18,7 +17,7 @@ use Rattle.fst_terms.proofs.FirstsLemmas.{found, missed}
 use Rattle.fst_terms.proofs.PrepareLemmas.{no-lets, no-lets-each}
 use Rattle.fst_terms.proofs.MemberLemmas.{AllTm}
 use Rattle.fst_terms.proofs.ReadingLemmas.{reads-more}
-use Rattle.fst_terms.proofs.ValidLemmas.{sorts, AtomsAmong, formulas-prop, goal-prop, formulas-among, goal-among, world, branch-reads}
+use Rattle.fst_terms.proofs.ValidLemmas.{sorts, AtomsAmong, formulas-prop, goal-prop, formulas-among, goal-among, branch-reads}
 use Rattle.fst_terms.proofs.ClashLemmas.{no-clash-marked}
 
 -- ---- a cut

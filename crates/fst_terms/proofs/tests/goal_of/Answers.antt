@@ -2,7 +2,7 @@ use Rattle.std.proofs.Common.{◌≡◌, List, [], ◌∷◌, refl, sym, ap, ◌
 use Rattle.std.proofs.lemmas.Result.{IfOk-weaker}
 use Rattle.fst_base.specs.declared.op.Op.TheVariants as op
 use Rattle.fst_base.specs.Sorts.{Srt, s_unit, s_bool}
-use Rattle.fst_terms.specs.Terms.{Tm, t_var, t_prim, t_if, t_end, t_more, plain_term}
+use Rattle.fst_terms.specs.Terms.{t_var, t_prim, t_if, t_end, t_more, plain_term}
 use Rattle.fst_terms.specs.Propositional.{SortPropositional, TmPropositional}
 use Rattle.fst_terms.specs.declared.term.Term.{Term}
 use Rattle.fst_terms.specs.declared.term.Term.TheVariants as T

@@ -1,10 +1,9 @@
-use Rattle.std.proofs.Common.{◌≡◌, ◌<◌, ◌∙◌, List, [], ◌∷◌, ◌++◌, length, map, refl, ap, sym, subst, arith, rules}
+use Rattle.std.proofs.Common.{◌≡◌, ◌<◌, ◌∙◌, [], ◌∷◌, ◌++◌, length, refl, ap, sym, subst, arith, rules}
 use Rattle.std.proofs.lemmas.List.{length-map, length_push}
 use Rattle.std.proofs.lemmas.Result.{IfOk-weaker}
-use Rattle.fst_terms.specs.Flats.{Flt, plain_flat, AreTruths}
+use Rattle.fst_terms.specs.Flats.{plain_flat, AreTruths}
 use Rattle.fst_terms.specs.Searching.{is_closed, Searched}
 use Rattle.fst_terms.specs.Terms.{plain_term}
-use Rattle.fst_terms.specs.declared.flat.Mark.{Mark}
 use Rattle.fst_terms.specs.declared.flat.Mark.TheVariants as mark
 use Rattle.fst_terms.proofs.SearchLemmas.{closed-none, marked-first, first-true, searched-false, truths-push}
 use Rattle.fst_top.proofs.branches.+search.Goals as goal

@@ -1,4 +1,4 @@
-use Rattle.std.proofs.Common.{rules, common_steps, ◌≡◌, ◌<◌, map, length, sym, subst, arith}
+use Rattle.std.proofs.Common.{rules, ◌≡◌, ◌<◌, map, length, sym, subst, arith}
 use Rattle.std.proofs.lemmas.List.{length-map}
 use Rattle.fst_program.specs.Paths.{plain_goal}
 use Rattle.fst_program.specs.Plain.{plain_program}
@@ -27,4 +27,4 @@ goals-preserved c =
     }
 
 pub returns : goal.returns
-returns c = (sym (length-map c.args.goals.now plain_goal), (first_of (search rules, grind (arith, common_steps)), c.goals.invariant.tells.a_yes (none-valid c.goals.rest.now c.in_default.ensures.cases)))
+returns c = (sym (length-map c.args.goals.now plain_goal), search rules, c.goals.invariant.tells.a_yes (none-valid c.goals.rest.now c.in_default.ensures.cases))
