@@ -1,10 +1,9 @@
 -- The goals of a program, function by function: all are valid, or one isn't and those before it are.
-use Rattle.std.proofs.Common.{◌≡◌, ℕ, zero, suc, ◌+◌, ◌-◌, ◌<◌, List, [], ◌∷◌, ◌++◌, length, slice_get, Option, Some, None, refl, sym, ap, ap₂, ◌∙◌, subst, arith, append_assoc, drop, map, take}
-use Rattle.std.proofs.lemmas.Option.{slice_get_within}
+use Rattle.std.proofs.Common.{◌≡◌, ℕ, zero, suc, ◌+◌, ◌-◌, ◌<◌, List, [], ◌∷◌, ◌++◌, length, slice_get, Option, Some, None, sym, ap, ◌∙◌, subst, arith, append_assoc, drop, map, take}
 use Rattle.fst_terms.specs.Meaning.{IsValid, Meaning, plain_sequent}
 use Rattle.fst_program.specs.declared.goal.Goal.{Goal}
 use Rattle.fst_program.specs.Good.{AllGood}
-use Rattle.fst_program.specs.Texts.{Fn, Prog, fun_at, if_there}
+use Rattle.fst_program.specs.Texts.{Fn, Prog, if_there}
 use Rattle.fst_program.specs.Paths.{Gl, GoalsValid, fun_goals, goals_from, goals_of, plain_goal}
 use Rattle.fst_top.specs.Built.{IsBuilt}
 use Rattle.fst_top.proofs.BuiltGood.{fun-good}
