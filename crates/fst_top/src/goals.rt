@@ -1,5 +1,9 @@
 //! The goals of a built function: one at the end of each way through its body, where it has ensures.
 
+mod instantiate;
+mod walker;
+mod way;
+
 ghost use Rattle.std.specs.Prelude.{◌≡◌, ◌<◌, length, map, IfOk};
 ghost use Rattle.fst_program.specs.Paths.{fun_goals, plain_goal};
 ghost use Rattle.fst_program.specs.Plain.{plain_program};
@@ -9,10 +13,6 @@ use crate::goals::walker::Walker;
 use fst_base::{OutOfMemory, Seq};
 use fst_program::{Goal, Program};
 use std::alloc::Global;
-
-mod instantiate;
-mod walker;
-mod way;
 
 /// The goals of the function of this number, in order.
 pub fn function_goals(
