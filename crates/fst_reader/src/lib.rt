@@ -2,6 +2,7 @@
 #![tactic(auto)]
 
 mod atoms;
+mod bodies;
 mod body;
 mod decl;
 mod definition;
