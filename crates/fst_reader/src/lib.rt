@@ -7,6 +7,7 @@ mod body;
 mod decl;
 mod definition;
 mod form;
+mod heads;
 mod lexeme;
 mod limits;
 mod make;
