@@ -35,6 +35,8 @@ use Rattle.fst_reader.specs.declared.decl.LiftTree.{LiftTree}
 use Rattle.fst_reader.specs.declared.decl.FunTree.{FunTree}
 use Rattle.fst_reader.specs.declared.decl.HeadTree.{HeadTree}
 use Rattle.fst_reader.specs.declared.decl.ParamTree.{ParamTree}
+use Rattle.fst_reader.specs.declared.decl.Computation.{Computation}
+use Rattle.fst_reader.specs.declared.decl.Contract.{Contract}
 use Rattle.fst_reader.specs.declared.decl.EffectName.{EffectName}
 use Rattle.fst_reader.specs.declared.decl.EffectName.TheVariants as E
 use Rattle.fst_grammar.specs.Grammar as G
@@ -47,7 +49,7 @@ use Rattle.fst_reader.specs.Trees.{Tree}
 pub data N : Type 0 where
   program decl : N
   effect base two_names three_names lift : N
-  fun head needs gives measures depth : N
+  fun head computation contract needs gives measures depth : N
   measures_more : ℕ → N
   effname params param hidden refinement : N
   sort sort_more sat : N
@@ -74,6 +76,8 @@ T three_names = List Word
 T lift = LiftTree Word
 T fun = FunTree Word
 T head = HeadTree Word
+T computation = Computation
+T contract = Contract
 T needs = Option Tree
 T gives = Option Tree
 T measures = List Tree
@@ -223,8 +227,11 @@ rule three_names = (λ p. p.0 ∷ p.1.0 ∷ p.1.1 ∷ []) ⇐ call binder ⋅ ca
 rule lift = (λ p. record { at = p.0; from = p.1.0; «to» = p.1.1.0; names = p.1.1.1.0; text = p.1.1.1.1 })
     ⇐ mark k.Lift ⋅ call name ⋅ k.To ▸ call name ⋅ k.By ▸ call two_names ⋅ call dm_block
 rule fun = (λ p. record { head = p.0; joined = false; body = p.1 }) ⇐ call head ⋅ call block
-rule head = (λ p. record { name = p.0; params = p.1.0; effect = p.1.1.0; sort = p.1.1.1.0; needs = p.1.1.1.1.0; gives = p.1.1.1.1.1.0; measures = p.1.1.1.1.1.1.0; «unfold» = p.1.1.1.1.1.1.1 })
-    ⇐ k.Fun ▸ call name ⋅ call params ⋅ k.Colon ▸ call effname ⋅ call sort ⋅ call needs ⋅ call gives ⋅ call measures ⋅ call depth
+-- what stands before the block of a function: `head` up to the colon, `computation` and `contract` behind it
+rule head = (λ p. record { name = p.0; params = p.1.0; effect = p.1.1.0.effect; sort = p.1.1.0.sort; needs = p.1.1.1.needs; gives = p.1.1.1.gives; measures = p.1.1.1.measures; «unfold» = p.1.1.1.«unfold» })
+    ⇐ k.Fun ▸ call name ⋅ call params ⋅ k.Colon ▸ call computation ⋅ call contract
+rule computation = (λ p. record { effect = p.0; sort = p.1 }) ⇐ call effname ⋅ call sort
+rule contract = (λ p. record { needs = p.0; gives = p.1.0; measures = p.1.1.0; «unfold» = p.1.1.1 }) ⇐ call needs ⋅ call gives ⋅ call measures ⋅ call depth
 rule needs = (λ a. a) ⇐ optional (k.Requires ▸ call (term true))
 rule gives = (λ a. a) ⇐ optional (k.Ensures ▸ call (term true))
 -- at most four forms

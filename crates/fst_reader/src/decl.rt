@@ -36,6 +36,22 @@ pub struct HeadTree<R> {
     pub unfold: u8,
 }
 
+/// The effect of a function and the sort of its result.
+#[derive(Drop)]
+pub struct Computation {
+    pub effect: EffectName<Word>,
+    pub sort: SortTree<Word>,
+}
+
+/// What stands between a function's computation and its body.
+#[derive(Drop)]
+pub struct Contract {
+    pub needs: Option<Form<Word>>,
+    pub gives: Option<Form<Word>>,
+    pub measures: Seq<Form<Word>>,
+    pub unfold: u8,
+}
+
 /// A function; `joined` marks one that belongs to the group of the function before it.
 #[derive(Drop)]
 pub struct FunTree<R> {

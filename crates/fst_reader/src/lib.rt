@@ -2,11 +2,13 @@
 #![tactic(auto)]
 
 mod atoms;
+mod bodies;
 mod body;
 mod decl;
 mod definition;
 mod form;
 mod laws;
+mod heads;
 mod lexeme;
 mod limits;
 mod make;
