@@ -154,7 +154,6 @@ impl Seen {
 }
 
 pub fn first_limit(tokens: &[Lexeme<'_>]) -> Option<Limit>
-    requires { length tokens.now < 2 ^ 32 }
     ensures value { result ≡ l.first_limit (map token_of tokens.now) }
     ensures within { IfSome result (λ limit. limit.index < length tokens.now) }
 {
