@@ -21,6 +21,9 @@ mod sorts;
 mod spelling;
 mod terminal;
 mod terms;
+#[cfg(test)]
+mod tests;
+mod whole;
 mod word;
 
 pub use body::{BodyTree, PartNode, PartTree};
@@ -32,4 +35,5 @@ pub use definition::DmTree;
 pub use form::{Form, FormNode};
 pub use pattern::{ArmTree, ConWord};
 pub use sort::SortTree;
+pub use whole::read;
 pub use word::Word;
