@@ -23,6 +23,8 @@ mod terminal;
 mod terms;
 #[cfg(test)]
 mod tests;
+#[cfg(test)]
+mod tree_tests;
 mod whole;
 mod word;
 

@@ -1,6 +1,6 @@
 //! The limits on what is read: open brackets, tokens of a declaration, and the size of literals.
 
-ghost use Rattle.std.specs.Prelude.{◌≡◌, ◌≤◌, ◌<◌, ◌^◌, false, length, map, IfSome, IfNone};
+ghost use Rattle.std.specs.Prelude.{◌≡◌, ◌≤◌, ◌<◌, false, length, map, IfSome, IfNone};
 ghost use Rattle.fst_reader.specs.Limits as l;
 ghost use Rattle.fst_reader.specs.Tokens.{token_of};
 

@@ -258,7 +258,7 @@ const HEAD: Piece = (b"fun main : PURE int { ", 1);
 
 const TOO_WIDE: Piece = (b" 170141183460469231731687303715884105729", 1);
 
-static LIMITS: [Built; 17] = [
+static LIMITS: [Built; 18] = [
     (&[(b" ", 1_048_576)], None),
     (&[(b" ", 1_048_577)], Some((Rule::TooLong, 0))),
     (&[(b"#", 1_048_577)], Some((Rule::TooLong, 0))),
@@ -273,8 +273,24 @@ static LIMITS: [Built; 17] = [
     ),
     (&[HEAD, (b"[", 255), (b"]", 255), (b" }", 1)], None),
     (&[HEAD, (b"[", 256)], Some((Rule::TooDeep, 277))),
-    (&[HEAD, (b"{", 255), (b"1", 1), (b"}", 256)], None),
-    (&[HEAD, (b"{", 256)], Some((Rule::TooDeep, 277))),
+    (
+        &[
+            HEAD,
+            (b"{", 60),
+            (b"(", 95),
+            (b"[", 100),
+            (b"1", 1),
+            (b"]", 100),
+            (b")", 95),
+            (b"}", 61),
+        ],
+        None,
+    ),
+    (
+        &[HEAD, (b"{", 60), (b"(", 95), (b"[", 101)],
+        Some((Rule::TooDeep, 277)),
+    ),
+    (&[HEAD, (b"(1) + ", 300), (b"1 }", 1)], None),
     (&[HEAD, (b"(", 255), (b"1 (", 1)], Some((Rule::Syntax, 279))),
     (&[HEAD, (b"(", 255), (b"+ (", 1)], Some((Rule::Syntax, 277))),
     // Tokens of a declaration.

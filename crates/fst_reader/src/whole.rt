@@ -1,6 +1,6 @@
 //! From bytes to a program, or to the refusal that is due.
 
-ghost use Rattle.std.specs.Prelude.{◌≡◌, ◌<◌, ◌+◌, ◌^◌, ◌⊎◌, ℕ, List, length, map, IfOk};
+ghost use Rattle.std.specs.Prelude.{◌≡◌, ◌<◌, ◌^◌, ◌⊎◌, ℕ, List, length, map, IfOk};
 ghost use Rattle.fst_reader.specs.Program.{Spells, FaultAt, Begins, IsProgram, IsRefused, AtLimit, Rising, place, first_place};
 ghost use Rattle.fst_reader.specs.Limits.{first_limit};
 ghost use Rattle.std.specs.Prelude as o;
@@ -97,6 +97,7 @@ pub fn read(alloc: Global, bytes: &[u8]) -> Result<RawProgram, Fault>
     ensures tree { IfOk result (λ program. IsProgram bytes.now program.decls) }
     ensures only { (decls : List (d.Decl w.Word)) → IsProgram bytes.now decls → (result ≡ Ok (record { decls = decls })) ⊎ (result ≡ Err Fault.NoMemory) }
     ensures refused { (rule : r.Rule) (at : p.Pos) → result ≡ Err (Fault.Refused rule at) → IsRefused bytes.now rule at }
+    ensures too_long { 2 ^ 20 < length bytes.now → result ≡ Err (Fault.Refused Rule.TooLong (record { at = 0 })) }
 {
     if bytes.len() > LONGEST {
         return Err(Fault::Refused(Rule::TooLong, Pos { at: 0 }));
