@@ -24,6 +24,11 @@ mod sorts;
 mod spelling;
 mod terminal;
 mod terms;
+#[cfg(test)]
+mod tests;
+#[cfg(test)]
+mod tree_tests;
+mod whole;
 mod word;
 
 pub use body::{BodyTree, PartNode, PartTree};
@@ -36,4 +41,5 @@ pub use form::{Form, FormNode};
 pub use laws::a_text_has_one_reading;
 pub use pattern::{ArmTree, ConWord};
 pub use sort::SortTree;
+pub use whole::read;
 pub use word::Word;
