@@ -6,9 +6,6 @@ ghost use Rattle.fst_program.specs.Paths.{plain_goal, fun_goals};
 ghost use Rattle.fst_terms.specs.Flats.{plain_flat, flat_of};
 ghost use Rattle.fst_terms.specs.Propositional.{IsPropositional};
 ghost use Rattle.fst_reader.specs.Program.{IsProgram, IsRefused};
-ghost use Rattle.fst_base.specs.declared.rule.Rule as r;
-ghost use Rattle.fst_base.specs.declared.place.Pos as p;
-ghost use Rattle.std.specs.Prelude.{Err};
 ghost use Rattle.fst_top.specs.Built.{IsBuilt};
 ghost use Rattle.fst_top.specs.Answers.{Reads, longest};
 ghost use Rattle.fst_top.specs.Goals.{GoalsPropositional};
@@ -23,17 +20,9 @@ use crate::status::Status;
 use crate::token_words::has_word;
 use fst_base::{Fault, OutOfMemory, Pos, Rule, Seq};
 use fst_program::{Goal, Program};
-use fst_reader::{RawDecl, RawProgram};
+use fst_reader::{RawDecl, read};
 use fst_terms::{Branch, Flat};
 use std::alloc::Global;
-
-/// stub
-fn read(_alloc: Global, bytes: &[u8]) -> Result<RawProgram, Fault>
-    ensures tree { IfOk result (λ program. IsProgram bytes.now program.decls) }
-    ensures refused { (rule : r.Rule) (at : p.Pos) → result ≡ Err (Fault.Refused rule at) → IsRefused bytes.now rule at }
-{
-    Err(Fault::NoMemory)
-}
 
 /// A status, and the text that goes with it.
 #[derive(Drop)]

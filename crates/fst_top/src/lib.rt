@@ -7,6 +7,8 @@ mod elaborate;
 mod goals;
 mod print;
 mod status;
+#[cfg(test)]
+mod tests;
 mod token_words;
 mod top;
 mod words;
