@@ -4,7 +4,7 @@ use Rattle.std.specs.Prelude.{ℕ, Bool, true, false, List, [], ◌∷◌, ◌++
 use Rattle.fst_reader.specs.declared.terminal.Terminal.{Terminal}
 use Rattle.fst_reader.specs.declared.terminal.Terminal.TheVariants as k
 use Rattle.fst_reader.specs.declared.operator.Separator.TheVariants as s
-use Rattle.fst_reader.specs.Productions.{N, program, decl, effect, base, two_names, three_names, lift, fun, head, computation, contract, needs, gives, measures, depth, measures_more, terms_more, effname, params, param, hidden, refinement, sort, sort_more, sat, body, ghost_let, plain_let, assertion, branching, matching, block, binding, annotation, part, block_part, reify, reflect, named_part, after_name, operation, rest, arms, arms_more, arm, dm, dm_let, dm_branching, dm_matching, dm_block, dm_binding, dmpart, dm_named_part, dm_after_name, run_args, second, dm_arms, dm_arms_more, dm_arm, pattern, term, implies_more, disj, disj_more, conj, conj_more, cmp, cmp_more, con, con_more, sum, sum_more, prod, prod_more, un, other, negated, app, solid, prefix, named, application, plain, atom, inner, enclosed, choice, inner_more, args, items, let_in, comparison, sum_operator, prod_operator, prefix_operator, name, binder, number, small}
+use Rattle.fst_reader.specs.Productions.{N, program, decl, effect, signature, returning, joining, base, two_names, three_names, lift, fun, head, computation, contract, needs, gives, measures, depth, measures_more, terms_more, effname, params, param, hidden, refinement, sort, sort_more, sat, body, ghost_let, plain_let, assertion, branching, matching, block, binding, annotation, part, block_part, reify, reflect, named_part, after_name, operation, rest, arms, arms_more, arm, dm, dm_let, dm_branching, dm_matching, dm_block, dm_binding, dmpart, dm_named_part, dm_after_name, run_args, second, dm_arms, dm_arms_more, dm_arm, pattern, term, implies_more, disj, disj_more, conj, conj_more, cmp, cmp_more, con, con_more, sum, sum_more, prod, prod_more, un, other, negated, app, solid, prefix, named, application, plain, atom, inner, enclosed, choice, inner_more, args, items, let_in, comparison, sum_operator, prod_operator, prefix_operator, name, binder, number, small}
 
 -- the tokens with which terms and their parts begin
 abbrev pub prefix_first : List Terminal
@@ -44,6 +44,9 @@ abbrev pub firsts : N → List Terminal
 firsts program = k.Effect ∷ k.Lift ∷ k.Fun ∷ []
 firsts decl = k.Effect ∷ k.Lift ∷ k.Fun ∷ []
 firsts effect = k.Effect ∷ []
+firsts signature = k.Effect ∷ []
+firsts returning = k.Return ∷ []
+firsts joining = k.Bind ∷ []
 firsts base = k.PureEffect ∷ k.DivEffect ∷ []
 firsts two_names = k.Name ∷ k.Hole ∷ []
 firsts three_names = k.Name ∷ k.Hole ∷ []
@@ -210,6 +213,9 @@ abbrev pub follow : N → List Terminal
 follow program = k.End ∷ []
 follow decl = decl_follow
 follow effect = decl_follow
+follow signature = k.Return ∷ []
+follow returning = k.Bind ∷ []
+follow joining = decl_follow
 follow base = k.Input ∷ []
 follow two_names = k.LeftBrace ∷ []
 follow three_names = k.LeftBrace ∷ []
@@ -311,6 +317,7 @@ follow small = k.LeftBrace ∷ []
 abbrev pub rank : N → ℕ
 rank program = 3
 rank decl = 2
+rank effect = 1
 rank two_names = 1
 rank three_names = 1
 rank fun = 1
