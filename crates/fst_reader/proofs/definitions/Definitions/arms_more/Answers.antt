@@ -5,7 +5,7 @@ use Rattle.fst_reader.specs.declared.pattern.ArmTree.{ArmTree}
 use Rattle.fst_reader.specs.declared.definition.DmTree.{DmTree}
 use Rattle.fst_reader.specs.Productions as n
 use Rattle.fst_reader.specs.Reading.{Reads, reads, behind}
-use Rattle.fst_reader.proofs.Runs.{all_read, comes, dm_arms_listed}
+use Rattle.fst_reader.proofs.Runs.{comes, dm_arms_listed}
 use Rattle.fst_reader.proofs.definitions.Definitions.arms_more.Goals as goal
 
 pub returns-in_err-arm-clause-reads : goal.returns-in_err-arm-clause-reads

@@ -1,9 +1,9 @@
-use Rattle.std.proofs.Common.{◌≡◌, true, false, List, [], ◌∷◌, sym, subst, ◌∙◌, rules, arith, Err}
+use Rattle.std.proofs.Common.{◌≡◌, true, false, List, sym, subst, ◌∙◌, rules, arith, Err}
 use Rattle.std.proofs.lemmas.Grind.{common_steps}
 use Rattle.fst_reader.specs.declared.word.Word.{Word}
 use Rattle.fst_reader.specs.declared.decl.Decl.{Decl}
 use Rattle.fst_reader.specs.Productions as n
-use Rattle.fst_reader.specs.Reading.{Reads, reads, behind}
+use Rattle.fst_reader.specs.Reading.{Reads, reads}
 use Rattle.fst_reader.proofs.Runs.{all_read, comes, program_listed}
 use Rattle.fst_reader.proofs.reader.Reader.program.Goals as goal
 

@@ -1,4 +1,4 @@
-use Rattle.std.proofs.Common.{◌≡◌, ◌≤◌, [], ◌∷◌, length}
+use Rattle.std.proofs.Common.{◌≡◌, ◌≤◌, length}
 use Rattle.fst_reader.specs.Productions as n
 use Rattle.fst_reader.specs.Reading.{reads, behind}
 use Rattle.fst_reader.proofs.reader.Reader.program.Given as goal
