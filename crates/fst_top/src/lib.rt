@@ -5,6 +5,7 @@ mod branches;
 mod checking;
 mod elaborate;
 mod goals;
+mod laws;
 mod print;
 mod status;
 #[cfg(test)]
@@ -13,4 +14,5 @@ mod token_words;
 mod top;
 mod words;
 
+pub use laws::a_text_is_at_most_one_program;
 pub use top::fstar;
