@@ -55,18 +55,18 @@ valid-next P n v w M = subst (GoalsValid M) (sym (goals-next P n)) (valid-append
 -- the first goal that isn't valid among those of a function, where those before are valid, is the first of the program
 pub no-of-program : (P : Prog) (k : ℕ) (text printed : List ℕ) → k < length P.funs → ((M : Meaning) → GoalsValid M (goals_from P 0 k)) → IsNoOf P (fun_goals P k) text printed → IsNoOf P (goals_of P) text printed
 no-of-program P k text printed less v n = record {
-    goal = n.goal;
-    marks = n.marks;
-    first = record {
-      before = goals_from P 0 k ++ n.first.before;
-      after = n.first.after ++ rest.1.0;
-      goals_are = rest.1.1 ∙ ap (λ gs. goals_from P 0 k ++ (gs ++ rest.1.0)) n.first.goals_are ∙ moved (goals_from P 0 k) n.first.before n.goal n.first.after rest.1.0;
-      valid = λ M. valid-append M (goals_from P 0 k) n.first.before (v M) (n.first.valid M);
-      open_branch = n.first.open_branch;
-      fails = n.first.fails;
-    };
-    text_is = n.text_is;
-  }
+  goal = n.goal;
+  marks = n.marks;
+  first = record {
+    before = goals_from P 0 k ++ n.first.before;
+    after = n.first.after ++ rest.1.0;
+    goals_are = rest.1.1 ∙ ap (λ gs. goals_from P 0 k ++ (gs ++ rest.1.0)) n.first.goals_are ∙ moved (goals_from P 0 k) n.first.before n.goal n.first.after rest.1.0;
+    valid = λ M. valid-append M (goals_from P 0 k) n.first.before (v M) (n.first.valid M);
+    open_branch = n.first.open_branch;
+    fails = n.first.fails;
+  };
+  text_is = n.text_is;
+}
   where
     moved : (gs bs : List Gl) (g : Gl) (cs ds : List Gl) → gs ++ ((bs ++ g ∷ cs) ++ ds) ≡ (gs ++ bs) ++ g ∷ (cs ++ ds)
     moved gs bs g cs ds = ap (λ xs. gs ++ xs) (append_assoc bs (g ∷ cs) ds) ∙ sym (append_assoc gs bs (g ∷ (cs ++ ds)))
@@ -87,27 +87,27 @@ no-of-program P k text printed less v n = record {
 -- a no about the first goal
 pub no-here : (P : Prog) (g : Gl) (gs : List Gl) (text printed : List ℕ) → IsNoAbout text P g printed → IsNoOf P (g ∷ gs) text printed
 no-here P g gs text printed n = record {
-    goal = g;
-    marks = n.marks;
-    first = record { before = []; after = gs; goals_are = refl; valid = λ M. tt; open_branch = n.open_branch; fails = n.fails };
-    text_is = n.text_is;
-  }
+  goal = g;
+  marks = n.marks;
+  first = record { before = []; after = gs; goals_are = refl; valid = λ M. tt; open_branch = n.open_branch; fails = n.fails };
+  text_is = n.text_is;
+}
 
 -- a no about a later one, where the first goal is valid
 pub no-later : (P : Prog) (g : Gl) (gs : List Gl) (text printed : List ℕ) → ((M : Meaning) → IsValid M g.sequent) → IsNoOf P gs text printed → IsNoOf P (g ∷ gs) text printed
 no-later P g gs text printed v n = record {
-    goal = n.goal;
-    marks = n.marks;
-    first = record {
-      before = g ∷ n.first.before;
-      after = n.first.after;
-      goals_are = ap (λ hs. g ∷ hs) n.first.goals_are;
-      valid = λ M. (v M, n.first.valid M);
-      open_branch = n.first.open_branch;
-      fails = n.first.fails;
-    };
-    text_is = n.text_is;
-  }
+  goal = n.goal;
+  marks = n.marks;
+  first = record {
+    before = g ∷ n.first.before;
+    after = n.first.after;
+    goals_are = ap (λ hs. g ∷ hs) n.first.goals_are;
+    valid = λ M. (v M, n.first.valid M);
+    open_branch = n.first.open_branch;
+    fails = n.first.fails;
+  };
+  text_is = n.text_is;
+}
 
 -- what is told of the rest of some goals is told of all of them
 pub record Tells (P : Prog) (text : List ℕ) (rest all : List Gl) : Type 0 where
@@ -119,9 +119,9 @@ tells-itself P text all = record { a_no = λ printed h. h; a_yes = λ v. v }
 
 pub tells-more : (P : Prog) (text : List ℕ) (g : Gl) (gs all : List Gl) → ((M : Meaning) → IsValid M g.sequent) → Tells P text (g ∷ gs) all → Tells P text gs all
 tells-more P text g gs all v t = record {
-    a_no = λ printed h. t.a_no printed (no-later P g gs text printed v h);
-    a_yes = λ w. t.a_yes (λ M. (v M, w M));
-  }
+  a_no = λ printed h. t.a_no printed (no-later P g gs text printed v h);
+  a_yes = λ w. t.a_yes (λ M. (v M, w M));
+}
 
 -- ---- from valid goals to good functions
 

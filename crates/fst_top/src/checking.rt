@@ -12,8 +12,8 @@ ghost use Rattle.fst_top.specs.Goals.{GoalsPropositional};
 ghost use Rattle.fst_top.specs.Answering.{IsAnswer, IsJudged, IsJudgedGoal};
 ghost use Rattle.fst_top.specs.Printed.{not_built_text, no_text};
 
-use crate::branches::{judge, Verdict};
-use crate::elaborate::{elaborate_program, Stop};
+use crate::branches::{Verdict, judge};
+use crate::elaborate::{Stop, elaborate_program};
 use crate::goals::function_goals;
 use crate::print;
 use crate::status::Status;
@@ -117,7 +117,12 @@ pub enum Judged {
     No(Seq<u8>),
 }
 
-fn judge_function(alloc: Global, text: &[u8], program: &Program, fun: u32) -> Result<Judged, OutOfMemory>
+fn judge_function(
+    alloc: Global,
+    text: &[u8],
+    program: &Program,
+    fun: u32,
+) -> Result<Judged, OutOfMemory>
     requires short { length text.now ≤ longest }
     requires built { IsBuilt (plain_program program.now) }
     requires there { fun < length program.now.funs }
@@ -127,7 +132,12 @@ fn judge_function(alloc: Global, text: &[u8], program: &Program, fun: u32) -> Re
     judge_goals(alloc, text, program, goals.as_slice())
 }
 
-fn judge_goals(alloc: Global, text: &[u8], program: &Program, goals: &[Goal]) -> Result<Judged, OutOfMemory>
+fn judge_goals(
+    alloc: Global,
+    text: &[u8],
+    program: &Program,
+    goals: &[Goal],
+) -> Result<Judged, OutOfMemory>
     requires short { length text.now ≤ longest }
     requires built { GoalsPropositional (map plain_goal goals.now) }
     ensures { IfOk result (IsJudged text.now (plain_program program.now) (map plain_goal goals.now)) }
@@ -143,7 +153,12 @@ fn judge_goals(alloc: Global, text: &[u8], program: &Program, goals: &[Goal]) ->
 }
 
 /// The text of a no, where the goal isn't valid.
-fn judge_goal(alloc: Global, text: &[u8], program: &Program, goal: &Goal) -> Result<Option<Seq<u8>>, OutOfMemory>
+fn judge_goal(
+    alloc: Global,
+    text: &[u8],
+    program: &Program,
+    goal: &Goal,
+) -> Result<Option<Seq<u8>>, OutOfMemory>
     requires short { length text.now ≤ longest }
     requires built { IsPropositional (plain_goal goal.now).sequent }
     ensures { IfOk result (IsJudgedGoal text.now (plain_program program.now) (plain_goal goal.now)) }

@@ -41,7 +41,11 @@ static ROWS: [Row; 36] = [
         1,
         b"not proved: ensures of flip at 1:5\npath\nbranch\n  b is true\n",
     ),
-    (b"fun u : PURE unit ensures result = () { () }", 0, b"checked: 1 functions, 1 goals\n"),
+    (
+        b"fun u : PURE unit ensures result = () { () }",
+        0,
+        b"checked: 1 functions, 1 goals\n",
+    ),
     (
         b"fun main (b : bool) : PURE bool ensures result = b { if b then true else false }",
         0,
@@ -49,9 +53,17 @@ static ROWS: [Row; 36] = [
     ),
     (b"fun main : PURE int { 1 }", 2, b"refused 0 NotBuilt\n"),
     // without ensures there is no goal
-    (b"fun f (x : bool) : PURE bool requires x { x }", 0, b"checked: 1 functions, 0 goals\n"),
+    (
+        b"fun f (x : bool) : PURE bool requires x { x }",
+        0,
+        b"checked: 1 functions, 0 goals\n",
+    ),
     // requires rules the branch out in which x is false
-    (b"fun f (x : bool) : PURE bool requires x ensures result { x }", 0, b"checked: 1 functions, 1 goals\n"),
+    (
+        b"fun f (x : bool) : PURE bool requires x ensures result { x }",
+        0,
+        b"checked: 1 functions, 1 goals\n",
+    ),
     (
         b"fun f (x : bool) (y : bool) : PURE bool requires x || y ensures result { x }",
         1,
@@ -80,7 +92,11 @@ static ROWS: [Row; 36] = [
         b"not proved: ensures of f at 1:5\npath then else\nbranch\n  a is true\n  b is false\n",
     ),
     // a literal condition takes its one way
-    (b"fun f : PURE bool ensures result { if true then true else false }", 0, b"checked: 1 functions, 1 goals\n"),
+    (
+        b"fun f : PURE bool ensures result { if true then true else false }",
+        0,
+        b"checked: 1 functions, 1 goals\n",
+    ),
     // connectives: ==> nests to the right, && and || to the left
     (
         b"fun f (a : bool) (b : bool) (c : bool) : PURE bool ensures result { a ==> b ==> a }",
@@ -109,7 +125,11 @@ static ROWS: [Row; 36] = [
         b"checked: 1 functions, 1 goals\n",
     ),
     // two parameters that bind nothing
-    (b"fun f (_ : bool) (_ : unit) : PURE unit { () }", 0, b"checked: 1 functions, 0 goals\n"),
+    (
+        b"fun f (_ : bool) (_ : unit) : PURE unit { () }",
+        0,
+        b"checked: 1 functions, 0 goals\n",
+    ),
     // the first no is told, and the goals before it are valid
     (
         b"fun f (a : bool) : PURE bool ensures result = a { a }\nfun g (a : bool) : PURE bool ensures result { a }\nfun h : PURE bool ensures result { false }",
@@ -117,27 +137,67 @@ static ROWS: [Row; 36] = [
         b"not proved: ensures of g at 2:5\npath\nbranch\n  a is false\n",
     ),
     // a branch without atoms
-    (b"fun h : PURE bool ensures result { false }", 1, b"not proved: ensures of h at 1:5\npath\nbranch\n"),
+    (
+        b"fun h : PURE bool ensures result { false }",
+        1,
+        b"not proved: ensures of h at 1:5\npath\nbranch\n",
+    ),
     // not one of the first programs
-    (b"fun f (x : bool) : PURE bool unfold 1 { x }", 2, b"refused 0 NotBuilt\n"),
-    (b"fun f (x : bool) : PURE bool { y }", 2, b"refused 0 NotBuilt\n"),
-    (b"fun f (x : bool) (x : bool) : PURE bool { x }", 2, b"refused 0 NotBuilt\n"),
-    (b"fun f : PURE unit { () } fun f : PURE unit { () }", 2, b"refused 0 NotBuilt\n"),
+    (
+        b"fun f (x : bool) : PURE bool unfold 1 { x }",
+        2,
+        b"refused 0 NotBuilt\n",
+    ),
+    (
+        b"fun f (x : bool) : PURE bool { y }",
+        2,
+        b"refused 0 NotBuilt\n",
+    ),
+    (
+        b"fun f (x : bool) (x : bool) : PURE bool { x }",
+        2,
+        b"refused 0 NotBuilt\n",
+    ),
+    (
+        b"fun f : PURE unit { () } fun f : PURE unit { () }",
+        2,
+        b"refused 0 NotBuilt\n",
+    ),
     (b"fun f : PURE bool { () }", 2, b"refused 0 NotBuilt\n"),
-    (b"fun f : PURE bool { () = true }", 2, b"refused 0 NotBuilt\n"),
+    (
+        b"fun f : PURE bool { () = true }",
+        2,
+        b"refused 0 NotBuilt\n",
+    ),
     (b"fun f : PURE bool { f() }", 2, b"refused 0 NotBuilt\n"),
     (b"fun f : DIV bool { true }", 2, b"refused 0 NotBuilt\n"),
-    (b"fun f : PURE bool ensures result = input { true }", 2, b"refused 0 NotBuilt\n"),
+    (
+        b"fun f : PURE bool ensures result = input { true }",
+        2,
+        b"refused 0 NotBuilt\n",
+    ),
     // what doesn't read
-    (b"fun main : PURE int { 1 + }", 2, b"refused 1 Syntax at 1:27\n"),
-    (b"fun f : PURE bool { true ", 2, b"refused 1 Syntax at 1:26\n"),
+    (
+        b"fun main : PURE int { 1 + }",
+        2,
+        b"refused 1 Syntax at 1:27\n",
+    ),
+    (
+        b"fun f : PURE bool { true ",
+        2,
+        b"refused 1 Syntax at 1:26\n",
+    ),
     (
         b"fun main : PURE int {\n 170141183460469231731687303715884105728 }",
         2,
         b"refused 4 NumberTooWide at 2:2\n",
     ),
     (b"\xFF", 2, b"refused 1 Syntax at 1:1\n"),
-    (b"fun f : PURE unit\n{ () } }", 2, b"refused 1 Syntax at 2:8\n"),
+    (
+        b"fun f : PURE unit\n{ () } }",
+        2,
+        b"refused 1 Syntax at 2:8\n",
+    ),
 ];
 
 #[test]
@@ -162,8 +222,14 @@ fn outside(rt: HostRuntime) -> Result<(), Failure> {
     assert_eq!(rt; fstar(alloc, &words, &mut shelf, &mut sink), 8);
     assert_eq!(rt; sink.written().as_slice(), b"checked".as_slice());
     let mut sink = MemorySink::new(alloc, Seq::new(alloc));
-    assert_eq!(rt; fstar(alloc, &words_of(alloc, &["frob"])?, &mut shelf, &mut sink), 3);
-    assert_eq!(rt; sink.written().as_slice(), b"refused 20 BadWords\n".as_slice());
+    assert_eq!(rt;
+        fstar(alloc, &words_of(alloc, &["frob"])?, &mut shelf, &mut sink),
+        3
+    );
+    assert_eq!(rt;
+        sink.written().as_slice(),
+        b"refused 20 BadWords\n".as_slice()
+    );
     Ok(())
 }
 
@@ -175,9 +241,15 @@ fn long_files(rt: HostRuntime) -> Result<(), Failure> {
         spaces.push(b' ')?;
     }
     let (status, written) = check(alloc, spaces.as_slice())?;
-    assert_eq!(rt; (status, written.as_slice()), (0, b"checked: 0 functions, 0 goals\n".as_slice()));
+    assert_eq!(rt;
+        (status, written.as_slice()),
+        (0, b"checked: 0 functions, 0 goals\n".as_slice())
+    );
     spaces.push(b' ')?;
     let (status, written) = check(alloc, spaces.as_slice())?;
-    assert_eq!(rt; (status, written.as_slice()), (2, b"refused 2 TooLong\n".as_slice()));
+    assert_eq!(rt;
+        (status, written.as_slice()),
+        (2, b"refused 2 TooLong\n".as_slice())
+    );
     Ok(())
 }

@@ -12,10 +12,10 @@ ghost use Rattle.fst_top.specs.Outcomes.{Fetched, Given, Delivered};
 ghost use Rattle.fst_top.specs.Printed.{plain_refusal_text, read_fault_text};
 ghost use Rattle.fst_top.specs.Statuses.{number_of};
 
-use crate::checking::{check, Answer};
+use crate::checking::{Answer, check};
 use crate::print;
 use crate::status::Status;
-use crate::words::{command_of, Command};
+use crate::words::{Command, command_of};
 use fst_base::{Name, OutOfMemory, Rule, Seq};
 use fst_outside::{FetchFault, PutFault, Shelf, Sink};
 use std::alloc::Global;
@@ -26,12 +26,7 @@ const LONGEST: usize = 1 << 20;
 /// Does what the words say, which don't hold the program's name: fetches the file from the shelf, puts the text into the
 /// sink in one call, and gives the exit status. Status 7 says that the fetch failed, 8 that the put failed, and 10 that
 /// memory was wanted.
-pub fn fstar<S: Shelf, K: Sink>(
-    alloc: Global,
-    words: &Seq<Name>,
-    shelf: &mut S,
-    sink: &mut K,
-) -> u8
+pub fn fstar<S: Shelf, K: Sink>(alloc: Global, words: &Seq<Name>, shelf: &mut S, sink: &mut K) -> u8
     ensures answer { IsTold (command_of words.now) (S.told shelf.old) → IsFault result
         ⊎ ((printed : List ℕ) × (Due words.now (S.told shelf.old) result printed × (K.written sink.new ≡ with_piece (K.written sink.old) printed))) }
     ensures only { (status : ℕ) (printed : List ℕ) → Due words.now (S.told shelf.old) status printed → IsFault result

@@ -105,7 +105,12 @@ fn print_marked(vars: &[Var], atom: &Term, mark: Mark, out: &mut Seq<u8>) -> Res
     out.extend_from_slice(b"\n")
 }
 
-fn print_marks(vars: &[Var], atoms: &[Term], marks: &[Mark], out: &mut Seq<u8>) -> Result<(), OutOfMemory>
+fn print_marks(
+    vars: &[Var],
+    atoms: &[Term],
+    marks: &[Mark],
+    out: &mut Seq<u8>,
+) -> Result<(), OutOfMemory>
     ensures { OnOk result (out.new ≡ out.old ++ marks_text (map plain_var vars.now) (map plain_term atoms.now) marks.now) }
 {
     let mut atoms = atoms;
@@ -126,5 +131,10 @@ pub fn print_branch(flat: &Flat, branch: &Branch, out: &mut Seq<u8>) -> Result<(
     ensures { OnOk result (out.new ≡ out.old ++ branch_text (plain_flat flat.now) branch.now.marks) }
 {
     out.extend_from_slice(b"branch\n")?;
-    print_marks(flat.vars.as_slice(), flat.atoms.as_slice(), branch.marks.as_slice(), out)
+    print_marks(
+        flat.vars.as_slice(),
+        flat.atoms.as_slice(),
+        branch.marks.as_slice(),
+        out,
+    )
 }

@@ -77,7 +77,12 @@ fn name_of_fun(program: &Program, fun: u32) -> &[u8]
 }
 
 /// Appends what a goal is for, its function and its place in the text.
-pub fn print_site(program: &Program, goal: &Goal, text: &[u8], out: &mut Seq<u8>) -> Result<(), OutOfMemory>
+pub fn print_site(
+    program: &Program,
+    goal: &Goal,
+    text: &[u8],
+    out: &mut Seq<u8>,
+) -> Result<(), OutOfMemory>
     requires short { length text.now + 1 < 2 ^ 32 }
     ensures { OnOk result (out.new ≡ out.old ++ site_text (plain_program program.now) (plain_goal goal.now) text.now) }
 {

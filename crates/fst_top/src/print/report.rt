@@ -40,7 +40,14 @@ pub fn yes(program: &Program, goals: u128, out: &mut Seq<u8>) -> Result<(), OutO
 }
 
 /// Appends a no: the goal, the path to it and the open branch.
-pub fn no(program: &Program, goal: &Goal, flat: &Flat, branch: &Branch, text: &[u8], out: &mut Seq<u8>) -> Result<(), OutOfMemory>
+pub fn no(
+    program: &Program,
+    goal: &Goal,
+    flat: &Flat,
+    branch: &Branch,
+    text: &[u8],
+    out: &mut Seq<u8>,
+) -> Result<(), OutOfMemory>
     requires short { length text.now + 1 < 2 ^ 32 }
     requires flat { plain_flat flat.now ≡ flat_of ((plain_goal goal.now).sequent) [] }
     ensures { OnOk result (out.new ≡ out.old ++ no_text (plain_program program.now) (plain_goal goal.now) branch.now.marks text.now) }

@@ -21,8 +21,8 @@ goals-preserved c =
     let P = plain_program c.args.program.now in
     record {
       tells = tells-more P c.args.text.now (plain_goal c.in-Some.goal.now) (map plain_goal c.in-Some.more.now) (map plain_goal c.args.goals.now)
-        (subst (IsJudgedGoal c.args.text.now P (plain_goal c.in-Some.goal.now)) c.in_default-2.is c.in_ok-printed.ensures)
-        (subst (λ gs. Tells P c.args.text.now (map plain_goal gs) (map plain_goal c.args.goals.now)) c.in-Some.ensures.cases.0 c.goals.invariant.tells);
+          (subst (IsJudgedGoal c.args.text.now P (plain_goal c.in-Some.goal.now)) c.in_default-2.is c.in_ok-printed.ensures)
+          (subst (λ gs. Tells P c.args.text.now (map plain_goal gs) (map plain_goal c.args.goals.now)) c.in-Some.ensures.cases.0 c.goals.invariant.tells);
       propositional = (subst (λ gs. GoalsPropositional (map plain_goal gs)) c.in-Some.ensures.cases.0 c.goals.invariant.propositional).1;
     }
 

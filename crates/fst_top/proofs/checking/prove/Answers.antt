@@ -14,11 +14,14 @@ returns-in-No c =
     let e = c.len-fun-end.ensures in
     let l = length-map c.args.program.now.funs (λ f. Some (plain_fun f)) in
     let less : c.loop-fun.fun < length P.funs = omega (arith, t, e, l) in
-    inr (inl (refl, record {
-      P = P;
-      reads = c.requires.reads;
-      no = no-of-program P c.loop-fun.fun c.args.text.now c.in-No.printed less c.loop-fun.invariant.valid (subst (IsJudged c.args.text.now P (fun_goals P c.loop-fun.fun)) c.in-No.is c.in_ok-count.ensures);
-    }))
+    inr (inl (
+      refl,
+      record {
+        P = P;
+        reads = c.requires.reads;
+        no = no-of-program P c.loop-fun.fun c.args.text.now c.in-No.printed less c.loop-fun.invariant.valid (subst (IsJudged c.args.text.now P (fun_goals P c.loop-fun.fun)) c.in-No.is c.in_ok-count.ensures);
+      },
+    ))
 
 pub loop-fun-preserved : goal.loop-fun-preserved
 loop-fun-preserved c =
@@ -41,9 +44,12 @@ returns c =
     let e = c.len-fun-end.ensures in
     let l = length-map c.args.program.now.funs (λ f. Some (plain_fun f)) in
     let all : c.loop-fun.fun ≡ length P.funs = omega (arith, t, a, e, l) in
-    inl (refl, record {
-      P = P;
-      reads = c.requires.reads;
-      valid = λ M. subst (λ n. GoalsValid M (goals_from P 0 n)) all (c.loop-fun.invariant.valid M);
-      text_is = c.in_ok-yes.ensures ∙ ap (λ text. text ++ yes_text P) c.new-printed.ensures;
-    })
+    inl (
+      refl,
+      record {
+        P = P;
+        reads = c.requires.reads;
+        valid = λ M. subst (λ n. GoalsValid M (goals_from P 0 n)) all (c.loop-fun.invariant.valid M);
+        text_is = c.in_ok-yes.ensures ∙ ap (λ text. text ++ yes_text P) c.new-printed.ensures;
+      },
+    )

@@ -14,7 +14,7 @@ returns-clause-only g c = elim c.match-answer.branch [
       (subst (λ words. Given (command_of words) (g.S.Shelf.told c.args.shelf.now) (Rose (g.S.Shelf.faults c.args.shelf.now) (g.S.Shelf.faults c.answer.new.shelf)) (number_of w.in-Ok.answer.status) w.in-Ok.answer.text) c.as_slice.ensures w.in-Ok.ensures.given)
       w.deliver-status.ensures.put)
   | in-Err w ↦ rw (c.number.ensures, w.status-is) (λ s p d. inl (inr (inr refl)))
-  ]
+]
 
 pub returns-clause-write_fault : goal.returns-clause-write_fault
 returns-clause-write_fault g c = elim c.match-answer.branch [
@@ -22,7 +22,7 @@ returns-clause-write_fault g c = elim c.match-answer.branch [
       (subst (λ words. Given (command_of words) (g.S.Shelf.told c.args.shelf.now) (Rose (g.S.Shelf.faults c.args.shelf.now) (g.S.Shelf.faults c.answer.new.shelf)) (number_of w.in-Ok.answer.status) w.in-Ok.answer.text) c.as_slice.ensures w.in-Ok.ensures.given)
       w.deliver-status.ensures.put)
   | in-Err w ↦ rw (c.number.ensures, w.status-is) (λ e. absurd (omega (arith, e)))
-  ]
+]
 
 pub returns-clause-yes_is_good : goal.returns-clause-yes_is_good
 returns-clause-yes_is_good g c = elim c.match-answer.branch [
@@ -30,4 +30,4 @@ returns-clause-yes_is_good g c = elim c.match-answer.branch [
       (subst (λ words. Given (command_of words) (g.S.Shelf.told c.args.shelf.now) (Rose (g.S.Shelf.faults c.args.shelf.now) (g.S.Shelf.faults c.answer.new.shelf)) (number_of w.in-Ok.answer.status) w.in-Ok.answer.text) c.as_slice.ensures w.in-Ok.ensures.given)
       w.deliver-status.ensures.put e q r))
   | in-Err w ↦ rw (c.number.ensures, w.status-is) (λ e. absurd (omega (arith, e)))
-  ]
+]
