@@ -1,8 +1,6 @@
 //! The program `fstar`: its words, real files and standard output for the top call.
 #![tactic(auto)]
 
-ghost use Rattle.std.specs.Prelude.{◌≡◌, ◌≤◌, ◌^◌};
-
 use fst_base::{Name, OutOfMemory, Seq};
 use fst_outside::{FolderShelf, OutSink};
 use fst_top::fstar;
@@ -20,7 +18,7 @@ const LONGEST_WORD: usize = 1 << 24;
 /// The word of this number; 0 is the program's name.
 fn word<R: Env>(rt: &R, alloc: Global, index: usize) -> Result<Option<Name>, OutOfMemory> {
     let mut size: usize = 256;
-    while size <= LONGEST_WORD {
+    'sizes: while size <= LONGEST_WORD {
         let mut buffer = vec![in alloc; 0u8; size]?;
         match rt.arg(index, &mut buffer) {
             Ok(length) => return named(alloc, &buffer[..length]),
