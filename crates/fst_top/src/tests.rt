@@ -241,15 +241,14 @@ fn long_files(rt: HostRuntime) -> Result<(), Failure> {
         spaces.push(b' ')?;
     }
     let (status, written) = check(alloc, spaces.as_slice())?;
+    assert_eq!(rt; status, 0);
     assert_eq!(rt;
-        (status, written.as_slice()),
-        (0, b"checked: 0 functions, 0 goals\n".as_slice())
+        written.as_slice(),
+        b"checked: 0 functions, 0 goals\n".as_slice()
     );
     spaces.push(b' ')?;
     let (status, written) = check(alloc, spaces.as_slice())?;
-    assert_eq!(rt;
-        (status, written.as_slice()),
-        (2, b"refused 2 TooLong\n".as_slice())
-    );
+    assert_eq!(rt; status, 2);
+    assert_eq!(rt; written.as_slice(), b"refused 2 TooLong\n".as_slice());
     Ok(())
 }
