@@ -5,7 +5,7 @@ use Rattle.fst_grammar.proofs.Sound as G
 use Rattle.fst_reader.specs.declared.terminal.Terminal.{Terminal}
 use Rattle.fst_reader.specs.declared.operator.Separator.{Separator}
 use Rattle.fst_reader.specs.Tokens.{alphabet}
-use Rattle.fst_reader.specs.Productions.{N, T, rule, program, decl, effect, base, two_names, three_names, lift, fun, head, needs, gives, measures, depth, measures_more, terms_more, effname, params, param, hidden, refinement, sort, sort_more, sat, body, ghost_let, plain_let, assertion, branching, matching, block, binding, annotation, part, block_part, reify, reflect, named_part, after_name, operation, rest, arms, arms_more, arm, dm, dm_let, dm_branching, dm_matching, dm_block, dm_binding, dmpart, dm_named_part, dm_after_name, run_args, second, dm_arms, dm_arms_more, dm_arm, pattern, term, implies_more, disj, disj_more, conj, conj_more, cmp, cmp_more, con, con_more, sum, sum_more, prod, prod_more, un, other, negated, app, solid, prefix, named, application, plain, atom, inner, enclosed, choice, inner_more, args, items, let_in, comparison, sum_operator, prod_operator, prefix_operator, name, binder, number, small}
+use Rattle.fst_reader.specs.Productions.{N, T, rule, program, decl, effect, signature, returning, joining, base, two_names, three_names, lift, fun, head, computation, contract, needs, gives, measures, depth, measures_more, terms_more, effname, params, param, hidden, refinement, sort, sort_more, sat, body, ghost_let, plain_let, assertion, branching, matching, block, binding, annotation, part, block_part, reify, reflect, named_part, after_name, operation, rest, arms, arms_more, arm, dm, dm_let, dm_branching, dm_matching, dm_block, dm_binding, dmpart, dm_named_part, dm_after_name, run_args, second, dm_arms, dm_arms_more, dm_arm, pattern, term, implies_more, disj, disj_more, conj, conj_more, cmp, cmp_more, con, con_more, sum, sum_more, prod, prod_more, un, other, negated, app, solid, prefix, named, application, plain, atom, inner, enclosed, choice, inner_more, args, items, let_in, comparison, sum_operator, prod_operator, prefix_operator, name, binder, number, small}
 use Rattle.fst_reader.specs.Tables.{firsts, nullable}
 use Rattle.fst_reader.proofs.Terminals.{kinds}
 
@@ -125,8 +125,14 @@ of_param = called (made (both of_hidden (skip (both of_binder (skip (both of_sor
 of_params : Has params
 of_params = called (right (made none))
 
+of_computation : Has computation
+of_computation = called (made (both of_effname of_sort))
+
+of_contract : Has contract
+of_contract = called (made (both of_needs (both of_gives (both of_measures of_depth))))
+
 of_head : Has head
-of_head = called (made (skip (both of_name (both of_params (skip (both of_effname (both of_sort (both of_needs (both of_gives (both of_measures of_depth))))))))))
+of_head = called (made (skip (both of_name (both of_params (skip (both of_computation of_contract))))))
 
 of_pattern : Has pattern
 of_pattern = called (left (made one))
@@ -326,8 +332,17 @@ of_dm_branching = called (made (skip (both (of_term false) (skip (both of_dm (sk
 of_dm_matching : Has dm_matching
 of_dm_matching = called (made (both one (both (of_term false) (skip (close of_dm_arms)))))
 
+of_signature : Has signature
+of_signature = called (made (skip (both of_name (skip (both of_base (skip (both of_sort (skip of_sort))))))))
+
+of_returning : Has returning
+of_returning = called (made (skip (both of_two_names of_dm_block)))
+
+of_joining : Has joining
+of_joining = called (made (skip (both of_three_names of_dm_block)))
+
 of_effect : Has effect
-of_effect = called (made (skip (both of_name (skip (both of_base (skip (both of_sort (skip (both of_sort (skip (both of_two_names (both of_dm_block (skip (both of_three_names of_dm_block))))))))))))))
+of_effect = called (made (both of_signature (both of_returning of_joining)))
 
 of_lift : Has lift
 of_lift = called (made (both one (both of_name (skip (both of_name (skip (both of_two_names of_dm_block)))))))
@@ -345,12 +360,17 @@ pub sample : (n : N) → Has n
 sample program = of_program
 sample decl = of_decl
 sample effect = of_effect
+sample signature = of_signature
+sample returning = of_returning
+sample joining = of_joining
 sample base = of_base
 sample two_names = of_two_names
 sample three_names = of_three_names
 sample lift = of_lift
 sample fun = of_fun
 sample head = of_head
+sample computation = of_computation
+sample contract = of_contract
 sample needs = of_needs
 sample gives = of_gives
 sample measures = of_measures

@@ -1,7 +1,7 @@
 -- The tables are right for the productions.
 use Rattle.std.proofs.Common.{◌≡◌, ◌<◌, ℕ, zero, suc, true, false, refl, arith}
 use Rattle.fst_reader.specs.declared.operator.Separator.TheVariants as s
-use Rattle.fst_reader.specs.Productions.{N, T, rule, program, decl, effect, base, two_names, three_names, lift, fun, head, needs, gives, measures, depth, measures_more, terms_more, effname, params, param, hidden, refinement, sort, sort_more, sat, body, ghost_let, plain_let, assertion, branching, matching, block, binding, annotation, part, block_part, reify, reflect, named_part, after_name, operation, rest, arms, arms_more, arm, dm, dm_let, dm_branching, dm_matching, dm_block, dm_binding, dmpart, dm_named_part, dm_after_name, run_args, second, dm_arms, dm_arms_more, dm_arm, pattern, term, implies_more, disj, disj_more, conj, conj_more, cmp, cmp_more, con, con_more, sum, sum_more, prod, prod_more, un, other, negated, app, solid, prefix, named, application, plain, atom, inner, enclosed, choice, inner_more, args, items, let_in, comparison, sum_operator, prod_operator, prefix_operator, name, binder, number, small}
+use Rattle.fst_reader.specs.Productions.{N, T, rule, program, decl, effect, signature, returning, joining, base, two_names, three_names, lift, fun, head, computation, contract, needs, gives, measures, depth, measures_more, terms_more, effname, params, param, hidden, refinement, sort, sort_more, sat, body, ghost_let, plain_let, assertion, branching, matching, block, binding, annotation, part, block_part, reify, reflect, named_part, after_name, operation, rest, arms, arms_more, arm, dm, dm_let, dm_branching, dm_matching, dm_block, dm_binding, dmpart, dm_named_part, dm_after_name, run_args, second, dm_arms, dm_arms_more, dm_arm, pattern, term, implies_more, disj, disj_more, conj, conj_more, cmp, cmp_more, con, con_more, sum, sum_more, prod, prod_more, un, other, negated, app, solid, prefix, named, application, plain, atom, inner, enclosed, choice, inner_more, args, items, let_in, comparison, sum_operator, prod_operator, prefix_operator, name, binder, number, small}
 use Rattle.fst_reader.specs.Tables.{firsts, nullable, follow, rank, top}
 use Rattle.fst_reader.specs.Tokens.{alphabet}
 use Rattle.fst_grammar.specs.Alphabet.{within}
@@ -12,12 +12,17 @@ good : (n : N) → is_good alphabet N T firsts nullable follow n (rule n) ≡ tr
 good program = refl
 good decl = refl
 good effect = refl
+good signature = refl
+good returning = refl
+good joining = refl
 good base = refl
 good two_names = refl
 good three_names = refl
 good lift = refl
 good fun = refl
 good head = refl
+good computation = refl
+good contract = refl
 good needs = refl
 good gives = refl
 good measures = refl
@@ -116,12 +121,17 @@ full : (n : N) → nullable n ≡ false → may_be_empty alphabet N T firsts nul
 full program e = cc
 full decl e = refl
 full effect e = refl
+full signature e = refl
+full returning e = refl
+full joining e = refl
 full base e = refl
 full two_names e = refl
 full three_names e = refl
 full lift e = refl
 full fun e = refl
 full head e = refl
+full computation e = refl
+full contract e = cc
 full needs e = cc
 full gives e = cc
 full measures e = cc
@@ -220,12 +230,17 @@ ranked : (n : N) → below alphabet N T firsts nullable rank (rank n) (rule n) �
 ranked program = refl
 ranked decl = refl
 ranked effect = refl
+ranked signature = refl
+ranked returning = refl
+ranked joining = refl
 ranked base = refl
 ranked two_names = refl
 ranked three_names = refl
 ranked lift = refl
 ranked fun = refl
 ranked head = refl
+ranked computation = refl
+ranked contract = refl
 ranked needs = refl
 ranked gives = refl
 ranked measures = refl
@@ -324,12 +339,17 @@ ranks : (n : N) → rank n < top
 ranks program = omega arith
 ranks decl = omega arith
 ranks effect = omega arith
+ranks signature = omega arith
+ranks returning = omega arith
+ranks joining = omega arith
 ranks base = omega arith
 ranks two_names = omega arith
 ranks three_names = omega arith
 ranks lift = omega arith
 ranks fun = omega arith
 ranks head = omega arith
+ranks computation = omega arith
+ranks contract = omega arith
 ranks needs = omega arith
 ranks gives = omega arith
 ranks measures = omega arith
@@ -428,12 +448,17 @@ follows : (n : N) → within alphabet (follow n) (follow n) ≡ true
 follows program = refl
 follows decl = refl
 follows effect = refl
+follows signature = refl
+follows returning = refl
+follows joining = refl
 follows base = refl
 follows two_names = refl
 follows three_names = refl
 follows lift = refl
 follows fun = refl
 follows head = refl
+follows computation = refl
+follows contract = refl
 follows needs = refl
 follows gives = refl
 follows measures = refl

@@ -9,3 +9,4 @@ pub mod Reading
 pub mod Nests
 pub mod Limits
 pub mod Program
+pub mod OneReading

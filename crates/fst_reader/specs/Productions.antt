@@ -31,10 +31,14 @@ use Rattle.fst_reader.specs.declared.definition.DmTree.TheVariants as D
 use Rattle.fst_reader.specs.declared.decl.Decl.{Decl}
 use Rattle.fst_reader.specs.declared.decl.Decl.TheVariants as M
 use Rattle.fst_reader.specs.declared.decl.EffectTree.{EffectTree}
+use Rattle.fst_reader.specs.declared.decl.Signature.{Signature}
+use Rattle.fst_reader.specs.declared.decl.Abstraction.{Abstraction}
 use Rattle.fst_reader.specs.declared.decl.LiftTree.{LiftTree}
 use Rattle.fst_reader.specs.declared.decl.FunTree.{FunTree}
 use Rattle.fst_reader.specs.declared.decl.HeadTree.{HeadTree}
 use Rattle.fst_reader.specs.declared.decl.ParamTree.{ParamTree}
+use Rattle.fst_reader.specs.declared.decl.Computation.{Computation}
+use Rattle.fst_reader.specs.declared.decl.Contract.{Contract}
 use Rattle.fst_reader.specs.declared.decl.EffectName.{EffectName}
 use Rattle.fst_reader.specs.declared.decl.EffectName.TheVariants as E
 use Rattle.fst_grammar.specs.Grammar as G
@@ -46,8 +50,8 @@ use Rattle.fst_reader.specs.Trees.{Tree}
 -- The nonterminals; `{x}` and what follows a first operand are nonterminals of their own.
 pub data N : Type 0 where
   program decl : N
-  effect base two_names three_names lift : N
-  fun head needs gives measures depth : N
+  effect signature returning joining base two_names three_names lift : N
+  fun head computation contract needs gives measures depth : N
   measures_more : ℕ → N
   effname params param hidden refinement : N
   sort sort_more sat : N
@@ -68,12 +72,17 @@ abbrev pub T : N → Type 0
 T program = List (Decl Word)
 T decl = Decl Word
 T effect = EffectTree Word
+T signature = Signature
+T returning = Abstraction
+T joining = Abstraction
 T base = Bool
 T two_names = List Word
 T three_names = List Word
 T lift = LiftTree Word
 T fun = FunTree Word
 T head = HeadTree Word
+T computation = Computation
+T contract = Contract
 T needs = Option Tree
 T gives = Option Tree
 T measures = List Tree
@@ -214,8 +223,14 @@ rule program = (λ p. p.0 ∷ p.1) ⇐ call decl ⋅ call program
 rule decl = M.Effect ⇐ call effect
     ∣ M.Lift ⇐ call lift
     ∣ M.Fun ⇐ call fun
-rule effect = (λ p. record { name = p.0; div = p.1.0; input = p.1.1.0; result = p.1.1.1.0; ret_names = p.1.1.1.1.0; ret = p.1.1.1.1.1.0; bind_names = p.1.1.1.1.1.1.0; bind = p.1.1.1.1.1.1.1 })
-    ⇐ k.Effect ▸ call name ⋅ k.Colon ▸ call base ⋅ k.Input ▸ call sort ⋅ k.Result ▸ call sort ⋅ k.Return ▸ call two_names ⋅ call dm_block ⋅ k.Bind ▸ call three_names ⋅ call dm_block
+-- 'effect' NAME ':' ('PURE' | 'DIV') 'input' sort 'result' sort 'return' NAME NAME '{' dm '}' 'bind' NAME NAME NAME '{' dm '}'
+-- in three nonterminals: up to the sorts, the return and the bind
+rule effect = (λ p. record { name = p.0.name; div = p.0.div; input = p.0.input; result = p.0.result; ret_names = p.1.0.names; ret = p.1.0.text; bind_names = p.1.1.names; bind = p.1.1.text })
+    ⇐ call signature ⋅ call returning ⋅ call joining
+rule signature = (λ p. record { name = p.0; div = p.1.0; input = p.1.1.0; result = p.1.1.1 })
+    ⇐ k.Effect ▸ call name ⋅ k.Colon ▸ call base ⋅ k.Input ▸ call sort ⋅ k.Result ▸ call sort
+rule returning = (λ p. record { names = p.0; text = p.1 }) ⇐ k.Return ▸ call two_names ⋅ call dm_block
+rule joining = (λ p. record { names = p.0; text = p.1 }) ⇐ k.Bind ▸ call three_names ⋅ call dm_block
 rule base = (λ _. false) ⇐ mark k.PureEffect
     ∣ (λ _. true) ⇐ mark k.DivEffect
 rule two_names = (λ p. p.0 ∷ p.1 ∷ []) ⇐ call binder ⋅ call binder
@@ -223,8 +238,11 @@ rule three_names = (λ p. p.0 ∷ p.1.0 ∷ p.1.1 ∷ []) ⇐ call binder ⋅ ca
 rule lift = (λ p. record { at = p.0; from = p.1.0; «to» = p.1.1.0; names = p.1.1.1.0; text = p.1.1.1.1 })
     ⇐ mark k.Lift ⋅ call name ⋅ k.To ▸ call name ⋅ k.By ▸ call two_names ⋅ call dm_block
 rule fun = (λ p. record { head = p.0; joined = false; body = p.1 }) ⇐ call head ⋅ call block
-rule head = (λ p. record { name = p.0; params = p.1.0; effect = p.1.1.0; sort = p.1.1.1.0; needs = p.1.1.1.1.0; gives = p.1.1.1.1.1.0; measures = p.1.1.1.1.1.1.0; «unfold» = p.1.1.1.1.1.1.1 })
-    ⇐ k.Fun ▸ call name ⋅ call params ⋅ k.Colon ▸ call effname ⋅ call sort ⋅ call needs ⋅ call gives ⋅ call measures ⋅ call depth
+-- what stands before the block of a function: `head` up to the colon, `computation` and `contract` behind it
+rule head = (λ p. record { name = p.0; params = p.1.0; effect = p.1.1.0.effect; sort = p.1.1.0.sort; needs = p.1.1.1.needs; gives = p.1.1.1.gives; measures = p.1.1.1.measures; «unfold» = p.1.1.1.«unfold» })
+    ⇐ k.Fun ▸ call name ⋅ call params ⋅ k.Colon ▸ call computation ⋅ call contract
+rule computation = (λ p. record { effect = p.0; sort = p.1 }) ⇐ call effname ⋅ call sort
+rule contract = (λ p. record { needs = p.0; gives = p.1.0; measures = p.1.1.0; «unfold» = p.1.1.1 }) ⇐ call needs ⋅ call gives ⋅ call measures ⋅ call depth
 rule needs = (λ a. a) ⇐ optional (k.Requires ▸ call (term true))
 rule gives = (λ a. a) ⇐ optional (k.Ensures ▸ call (term true))
 -- at most four forms

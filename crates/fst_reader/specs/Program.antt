@@ -22,6 +22,10 @@ Spells decls ts = C.Spells alphabet n.N n.T n.rule n.program decls ts []
 abbrev pub FaultAt : List Token → List Token → Type 0
 FaultAt = C.FaultAt alphabet n.N n.T n.rule n.program
 
+-- these tokens begin a program
+abbrev pub Begins : List Token → Type 0
+Begins = C.Begins alphabet n.N n.T n.rule n.program
+
 -- the place where these tokens begin, in a text that ends there
 abbrev pub place : ℕ → List Token → ℕ
 place end [] = end

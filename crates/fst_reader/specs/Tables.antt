@@ -4,7 +4,7 @@ use Rattle.std.specs.Prelude.{ℕ, Bool, true, false, List, [], ◌∷◌, ◌++
 use Rattle.fst_reader.specs.declared.terminal.Terminal.{Terminal}
 use Rattle.fst_reader.specs.declared.terminal.Terminal.TheVariants as k
 use Rattle.fst_reader.specs.declared.operator.Separator.TheVariants as s
-use Rattle.fst_reader.specs.Productions.{N, program, decl, effect, base, two_names, three_names, lift, fun, head, needs, gives, measures, depth, measures_more, terms_more, effname, params, param, hidden, refinement, sort, sort_more, sat, body, ghost_let, plain_let, assertion, branching, matching, block, binding, annotation, part, block_part, reify, reflect, named_part, after_name, operation, rest, arms, arms_more, arm, dm, dm_let, dm_branching, dm_matching, dm_block, dm_binding, dmpart, dm_named_part, dm_after_name, run_args, second, dm_arms, dm_arms_more, dm_arm, pattern, term, implies_more, disj, disj_more, conj, conj_more, cmp, cmp_more, con, con_more, sum, sum_more, prod, prod_more, un, other, negated, app, solid, prefix, named, application, plain, atom, inner, enclosed, choice, inner_more, args, items, let_in, comparison, sum_operator, prod_operator, prefix_operator, name, binder, number, small}
+use Rattle.fst_reader.specs.Productions.{N, program, decl, effect, signature, returning, joining, base, two_names, three_names, lift, fun, head, computation, contract, needs, gives, measures, depth, measures_more, terms_more, effname, params, param, hidden, refinement, sort, sort_more, sat, body, ghost_let, plain_let, assertion, branching, matching, block, binding, annotation, part, block_part, reify, reflect, named_part, after_name, operation, rest, arms, arms_more, arm, dm, dm_let, dm_branching, dm_matching, dm_block, dm_binding, dmpart, dm_named_part, dm_after_name, run_args, second, dm_arms, dm_arms_more, dm_arm, pattern, term, implies_more, disj, disj_more, conj, conj_more, cmp, cmp_more, con, con_more, sum, sum_more, prod, prod_more, un, other, negated, app, solid, prefix, named, application, plain, atom, inner, enclosed, choice, inner_more, args, items, let_in, comparison, sum_operator, prod_operator, prefix_operator, name, binder, number, small}
 
 -- the tokens with which terms and their parts begin
 abbrev pub prefix_first : List Terminal
@@ -44,12 +44,17 @@ abbrev pub firsts : N → List Terminal
 firsts program = k.Effect ∷ k.Lift ∷ k.Fun ∷ []
 firsts decl = k.Effect ∷ k.Lift ∷ k.Fun ∷ []
 firsts effect = k.Effect ∷ []
+firsts signature = k.Effect ∷ []
+firsts returning = k.Return ∷ []
+firsts joining = k.Bind ∷ []
 firsts base = k.PureEffect ∷ k.DivEffect ∷ []
 firsts two_names = k.Name ∷ k.Hole ∷ []
 firsts three_names = k.Name ∷ k.Hole ∷ []
 firsts lift = k.Lift ∷ []
 firsts fun = k.Fun ∷ []
 firsts head = k.Fun ∷ []
+firsts computation = k.PureEffect ∷ k.GhostEffect ∷ k.DivEffect ∷ k.Name ∷ []
+firsts contract = k.Requires ∷ k.Ensures ∷ k.Decreases ∷ k.Unfold ∷ []
 firsts needs = k.Requires ∷ []
 firsts gives = k.Ensures ∷ []
 firsts measures = k.Decreases ∷ []
@@ -142,6 +147,7 @@ firsts small = k.Small ∷ []
 
 abbrev pub nullable : N → Bool
 nullable program = true
+nullable contract = true
 nullable needs = true
 nullable gives = true
 nullable measures = true
@@ -207,12 +213,17 @@ abbrev pub follow : N → List Terminal
 follow program = k.End ∷ []
 follow decl = decl_follow
 follow effect = decl_follow
+follow signature = k.Return ∷ []
+follow returning = k.Bind ∷ []
+follow joining = decl_follow
 follow base = k.Input ∷ []
 follow two_names = k.LeftBrace ∷ []
 follow three_names = k.LeftBrace ∷ []
 follow lift = decl_follow
 follow fun = decl_follow
 follow head = k.LeftBrace ∷ []
+follow computation = k.Requires ∷ k.Ensures ∷ k.Decreases ∷ k.Unfold ∷ k.LeftBrace ∷ []
+follow contract = k.LeftBrace ∷ []
 follow needs = k.Ensures ∷ k.Decreases ∷ k.Unfold ∷ k.LeftBrace ∷ []
 follow gives = k.Decreases ∷ k.Unfold ∷ k.LeftBrace ∷ []
 follow measures = k.Unfold ∷ k.LeftBrace ∷ []
@@ -306,9 +317,12 @@ follow small = k.LeftBrace ∷ []
 abbrev pub rank : N → ℕ
 rank program = 3
 rank decl = 2
+rank effect = 1
 rank two_names = 1
 rank three_names = 1
 rank fun = 1
+rank computation = 2
+rank contract = 1
 rank effname = 1
 rank params = 2
 rank param = 1

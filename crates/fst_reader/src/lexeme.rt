@@ -4,6 +4,7 @@ ghost use Rattle.std.specs.Prelude.{◌≡◌, ◌<◌, ◌+◌, ◌^◌, length
 ghost use Rattle.fst_text.specs.Scans.{IsTokenOf, token_text};
 ghost use Rattle.fst_reader.specs.Tokens.{token_of};
 ghost use Rattle.fst_reader.specs.Lexemes.{terminal_of, lexed, lexemes};
+ghost use Rattle.fst_reader.specs.Program.{Rising};
 
 use crate::reader::magnitude;
 use crate::spelling::spelled_by;
@@ -68,9 +69,11 @@ fn lexed<'a>(bytes: &'a [u8], token: Token) -> Lexeme<'a>
 }
 
 /// The tokens of the text, and at their end the byte that begins none, if there is one.
+#[tactic(auto, using(crate::proofs::Rising::lexemes_rising))]
 pub fn lexemes<'a>(alloc: Global, bytes: &'a [u8]) -> Result<Vec<Lexeme<'a>>, OutOfMemory>
     requires { length bytes.now + 1 < 2 ^ 32 }
-    ensures { IfOk result (λ found. map token_of found.items ≡ lexemes bytes.now) }
+    ensures value { IfOk result (λ found. map token_of found.items ≡ lexemes bytes.now) }
+    ensures rising { Rising 0 (lexemes bytes.now) (length bytes.now) }
 {
     let mut found = Vec::new(alloc);
     let mut scanner = Scanner::new(bytes);

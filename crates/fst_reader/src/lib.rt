@@ -2,10 +2,15 @@
 #![tactic(auto)]
 
 mod atoms;
+mod bodies;
 mod body;
 mod decl;
+mod decls;
 mod definition;
+mod definitions;
 mod form;
+mod heads;
+mod laws;
 mod lexeme;
 mod limits;
 mod make;
@@ -21,6 +26,11 @@ mod sorts;
 mod spelling;
 mod terminal;
 mod terms;
+#[cfg(test)]
+mod tests;
+#[cfg(test)]
+mod tree_tests;
+mod whole;
 mod word;
 
 pub use body::{BodyTree, PartNode, PartTree};
@@ -30,6 +40,8 @@ pub use decl::{
 };
 pub use definition::DmTree;
 pub use form::{Form, FormNode};
+pub use laws::a_text_has_one_reading;
 pub use pattern::{ArmTree, ConWord};
 pub use sort::SortTree;
+pub use whole::read;
 pub use word::Word;

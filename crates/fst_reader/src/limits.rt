@@ -1,6 +1,6 @@
 //! The limits on what is read: open brackets, tokens of a declaration, and the size of literals.
 
-ghost use Rattle.std.specs.Prelude.{◌≡◌, ◌≤◌, ◌<◌, ◌^◌, false, length, map, IfSome, IfNone};
+ghost use Rattle.std.specs.Prelude.{◌≡◌, ◌≤◌, ◌<◌, false, length, map, IfSome, IfNone};
 ghost use Rattle.fst_reader.specs.Limits as l;
 ghost use Rattle.fst_reader.specs.Tokens.{token_of};
 
@@ -154,7 +154,6 @@ impl Seen {
 }
 
 pub fn first_limit(tokens: &[Lexeme<'_>]) -> Option<Limit>
-    requires { length tokens.now < 2 ^ 32 }
     ensures value { result ≡ l.first_limit (map token_of tokens.now) }
     ensures within { IfSome result (λ limit. limit.index < length tokens.now) }
 {

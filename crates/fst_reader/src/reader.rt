@@ -1,6 +1,6 @@
 //! The tokens that are left to be read.
 
-ghost use Rattle.std.specs.Prelude.{◌≡◌, ◌<◌, ◌+◌, [], ◌∷◌, length, map, OnOk};
+ghost use Rattle.std.specs.Prelude.{◌≡◌, ◌<◌, ◌+◌, [], ◌∷◌, length, map, Ok, Err, IfOk, IfErr, OnOk};
 ghost use Rattle.fst_grammar.specs.Alphabet.{next, has};
 ghost use Rattle.fst_reader.specs.Tokens.{alphabet, token_of};
 ghost use Rattle.fst_reader.specs.Program.{first_place};
@@ -31,6 +31,17 @@ impl From<OutOfMemory> for Stop {
 
     fn from(_: OutOfMemory) -> Stop {
         Stop::NoMemory
+    }
+}
+
+/// The first with what the second gives. A caller that owns a tree lets it go here where the second stops.
+pub fn both<A: Drop, B: Drop>(first: A, second: Result<B, Stop>) -> Result<(A, B), Stop>
+    ensures ok { IfOk result (λ pair. (pair.0 ≡ first) × (second ≡ Ok pair.1)) }
+    ensures err { IfErr result (λ stop. second ≡ Err stop) }
+{
+    match second {
+        Ok(second) => Ok((first, second)),
+        Err(stop) => Err(stop),
     }
 }
 

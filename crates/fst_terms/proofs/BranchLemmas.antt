@@ -1,21 +1,20 @@
 -- A propositional sequent is valid exactly where no branch of its flat form is open.
-use Rattle.std.proofs.Common.{◌≡◌, ℕ, zero, suc, ◌<◌, Bool, true, false, if◌then◌else◌, List, [], ◌∷◌, ◌++◌, map, length, reverse, get_or, slice_get, Option, Some, None, IsTrue, refl, sym, ap, ap₂, ◌∙◌, subst, arith, ◌⊎◌, inl, inr}
-use Rattle.std.specs.Prelude.{⊤}
+use Rattle.std.proofs.Common.{◌≡◌, Bool, true, false, if◌then◌else◌, List, [], ◌∷◌, ◌++◌, map, slice_get, Some, IsTrue, refl, sym, ap, ◌∙◌, subst, inl, inr}
 use Rattle.fst_base.specs.declared.op.Op.TheVariants as op
-use Rattle.fst_base.specs.Sorts.{Srt, s_unit, s_bool, s_int, s_a, s_b, s_pair, s_opt, s_list, s_either}
-use Rattle.fst_base.specs.Values.{Val, v_unit, v_bool, Has, HasSorts}
+use Rattle.fst_base.specs.Sorts.{Srt, s_unit, s_bool}
+use Rattle.fst_base.specs.Values.{v_unit, v_bool, HasSorts}
 use Rattle.fst_base.specs.Primitives.{is_true}
-use Rattle.fst_terms.specs.Terms.{Tm, Tms, t_var, t_int, t_bool, t_unit, t_prim, t_if, t_app, t_let, t_end, t_more}
-use Rattle.fst_terms.specs.Meaning.{Env, Meaning, value, lookup, Truth, AllTrue, HasVars, IsValid, Vr, Sqt}
+use Rattle.fst_terms.specs.Terms.{Tm, t_var, t_int, t_bool, t_unit, t_prim, t_if, t_app, t_let, t_end, t_more}
+use Rattle.fst_terms.specs.Meaning.{Env, Meaning, value, lookup}
 use Rattle.fst_terms.specs.Formulas.{sort_of}
-use Rattle.fst_terms.specs.Same.{same_term, is_among, firsts}
+use Rattle.fst_terms.specs.Same.{same_term, is_among}
 use Rattle.fst_terms.specs.declared.flat.Mark.{Mark}
 use Rattle.fst_terms.specs.declared.flat.Mark.TheVariants as mark
-use Rattle.fst_terms.specs.Flats.{Flt, cleared, atoms_in, all_atoms_in, equation_atoms, parts_of, parts_of_each, literals, sorts_of_vars, flat_of, truth_of, mark_of, reading, reads, Marked, Joined, joined_same, joined_flip, joined_chain, joined_atom, joined_unit, Clash, AllRead, is_truth, AreTruths, IsOpen}
-use Rattle.fst_terms.specs.Propositional.{SortPropositional, TmPropositional, FormulasPropositional, VarsPropositional, IsPropositional}
+use Rattle.fst_terms.specs.Flats.{Flt, atoms_in, all_atoms_in, equation_atoms, parts_of_each, literals, sorts_of_vars, truth_of, mark_of, Marked, Joined, joined_same, joined_flip, joined_chain, joined_atom, joined_unit, is_truth, AreTruths}
+use Rattle.fst_terms.specs.Propositional.{SortPropositional, TmPropositional, FormulasPropositional}
 use Rattle.fst_terms.proofs.SameLemmas.{same_term-decides}
-use Rattle.fst_terms.proofs.MemberLemmas.{Includes, AllTm, all-append, firsts-include, firsts-all, all-at}
-use Rattle.fst_terms.proofs.PropositionalLemmas.{sort-is, value-has, bool-value, unit-value, cleared-propositional, cleared-value, Agrees, reading-is}
+use Rattle.fst_terms.proofs.MemberLemmas.{Includes, AllTm, all-append, all-at}
+use Rattle.fst_terms.proofs.PropositionalLemmas.{sort-is, value-has, bool-value, Agrees}
 
 -- ---- the atoms of propositional formulas are variables of sort bool
 

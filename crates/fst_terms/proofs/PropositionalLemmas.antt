@@ -1,20 +1,16 @@
 -- A propositional sequent is valid exactly where no branch of its flat form is open.
-use Rattle.std.proofs.Common.{◌≡◌, ℕ, zero, suc, ◌<◌, Bool, true, false, if◌then◌else◌, List, [], ◌∷◌, ◌++◌, map, length, reverse, get_or, slice_get, Option, Some, None, IsTrue, refl, sym, ap, ap₂, ◌∙◌, subst, arith}
+use Rattle.std.proofs.Common.{◌≡◌, ℕ, zero, suc, Bool, true, false, if◌then◌else◌, List, [], ◌∷◌, ◌++◌, slice_get, Option, Some, refl, sym, ap, ap₂, ◌∙◌, subst}
 use Rattle.std.specs.Prelude.{⊤}
 use Rattle.std.proofs.lemmas.Option.{get_or_from_slice_get}
 use Rattle.fst_base.specs.declared.op.Op.TheVariants as op
-use Rattle.fst_base.specs.Sorts.{Srt, s_unit, s_bool, s_int, s_a, s_b, s_pair, s_opt, s_list, s_either}
-use Rattle.fst_base.specs.Values.{Val, v_unit, v_bool, v_int, v_pair, v_none, v_some, v_nil, v_cons, v_inl, v_inr, Has, HasSorts, same, same_bool}
+use Rattle.fst_base.specs.Sorts.{Srt, s_unit, s_bool}
+use Rattle.fst_base.specs.Values.{Val, v_unit, v_bool, Has, HasSorts, same, same_bool}
 use Rattle.fst_base.specs.Primitives.{is_true}
-use Rattle.fst_terms.specs.Terms.{Tm, Tms, t_var, t_int, t_bool, t_unit, t_prim, t_if, t_app, t_let, t_end, t_more}
-use Rattle.fst_terms.specs.Meaning.{Env, Meaning, value, lookup, Truth, AllTrue, HasVars, IsValid, Vr, Sqt}
+use Rattle.fst_terms.specs.Terms.{Tm, t_var, t_int, t_bool, t_unit, t_prim, t_if, t_app, t_let, t_end, t_more}
+use Rattle.fst_terms.specs.Meaning.{Env, Meaning, value, lookup}
 use Rattle.fst_terms.specs.Formulas.{sort_of}
-use Rattle.fst_terms.specs.Same.{same_term, is_among, firsts}
-use Rattle.fst_terms.specs.declared.flat.Mark.{Mark}
-use Rattle.fst_terms.specs.declared.flat.Mark.TheVariants as mark
 use Rattle.fst_terms.specs.Flats.{cleared, atoms_in, chosen, agree, equation_atoms, equation_reading, reading}
-use Rattle.fst_terms.specs.Propositional.{SortPropositional, TmPropositional, FormulasPropositional, VarsPropositional, IsPropositional}
-use Rattle.fst_terms.proofs.SameLemmas.{same_term-decides}
+use Rattle.fst_terms.specs.Propositional.{SortPropositional, TmPropositional}
 
 -- ---- sorts and values
 

@@ -1,15 +1,14 @@
 -- The value of a term with terms put in for its variables.
-use Rattle.std.proofs.Common.{◌≡◌, ℕ, zero, suc, List, [], ◌∷◌, map, get_or, Option, Some, None, refl, sym, ap, ap₂, ◌∙◌, if◌then◌else◌}
-use Rattle.std.specs.Prelude.{option_map}
+use Rattle.std.proofs.Common.{◌≡◌, ℕ, zero, suc, List, [], ◌∷◌, map, get_or, Option, Some, None, refl, ap, ap₂, ◌∙◌}
 use Rattle.fst_base.specs.declared.op.Op.{Op}
 use Rattle.fst_base.specs.declared.op.Op.TheVariants as op
 use Rattle.fst_base.specs.Sorts.{Srt}
-use Rattle.fst_base.specs.Values.{Val, v_unit, v_pair, v_cons, v_some, v_inl, v_inr}
-use Rattle.fst_base.specs.Primitives.{prim, first, second, is_true}
+use Rattle.fst_base.specs.Values.{Val}
+use Rattle.fst_base.specs.Primitives.{prim, first, second}
 use Rattle.fst_terms.specs.Terms.{Tm, Tms, t_var, t_int, t_bool, t_unit, t_prim, t_if, t_app, t_let, t_end, t_more, listed, shift}
 use Rattle.fst_terms.specs.Meaning.{Env, Meaning, value, values, lookup}
-use Rattle.fst_terms.specs.Formulas.{args_of, part, component, or_else, make, put, puts}
-use Rattle.fst_terms.proofs.TermLemmas.{value_shift, widens_one}
+use Rattle.fst_terms.specs.Formulas.{component, or_else, make, put, puts}
+use Rattle.fst_terms.proofs.TermLemmas.{choice, value_shift, widens_one}
 
 -- the first and the second argument's value
 first-value : (M : Meaning) (ts : Tms) (e : Env) → value M (get_or (listed ts) 0 t_unit) e ≡ first (values M ts e)
@@ -78,9 +77,6 @@ lookup-values M (u ∷ us) e (suc i) = lookup-values M us e i
 raised-values : (M : Meaning) (us : List Tm) (e : Env) (v : Val) → put_values M (map (shift 0 1) us) (v ∷ e) ≡ put_values M us e
 raised-values M [] e v = refl
 raised-values M (u ∷ us) e v = ap₂ ◌∷◌ (value_shift M 0 1 u e (v ∷ e) (widens_one e v)) (raised-values M us e v)
-
-choice : {c c' a a' b b' : Val} → c ≡ c' → a ≡ a' → b ≡ b' → (if is_true c then a else b) ≡ (if is_true c' then a' else b')
-choice p q r = rw (p, q, r) refl
 
 mutual
   -- the value of a term with terms put in is its value at theirs

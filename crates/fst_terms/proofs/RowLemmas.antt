@@ -2,6 +2,7 @@
 use Rattle.std.proofs.Common.{◌≡◌, ℕ, zero, suc, ◌+◌, ◌<◌, ◌≤◌, Bool, true, false, ◌||◌, List, [], ◌∷◌, length, get_or, take, map, refl, ap, arith, add-one}
 use Rattle.fst_terms.specs.Terms.{Tm, t_more, row, plain_term, plain_terms, shift, shifts, subst, substs, free_in, free_in_some}
 use Rattle.fst_terms.specs.Indices.{Raisable, AreRaisable, lets, lets_of}
+use Rattle.fst_terms.specs.Flats.{cleared, all_cleared}
 use Rattle.fst_terms.specs.declared.term.Term.{Term}
 
 or-true : (b c : Bool) → c ≡ true → (b || c) ≡ true
@@ -53,3 +54,7 @@ shifts-row from by (t ∷ ts) = ap (t_more (shift from by (plain_term t))) (shif
 pub substs-row : (i : ℕ) (u : Tm) (ts : List Term) → row (map (λ t. subst i u (plain_term t)) ts) ≡ substs i u (plain_terms ts)
 substs-row i u [] = refl
 substs-row i u (t ∷ ts) = ap (t_more (subst i u (plain_term t))) (substs-row i u ts)
+
+pub cleared-row : (n : ℕ) (ts : List Term) → row (map (λ t. cleared n (plain_term t)) ts) ≡ all_cleared n (plain_terms ts)
+cleared-row n [] = refl
+cleared-row n (t ∷ ts) = ap (t_more (cleared n (plain_term t))) (cleared-row n ts)

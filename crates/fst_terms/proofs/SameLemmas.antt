@@ -1,8 +1,7 @@
 -- Equality of terms as a test; members of lists of terms.
-use Rattle.std.proofs.Common.{◌≡◌, ℕ, ℤ, Bool, true, false, ◌&&◌, if◌then◌else◌, List, [], ◌∷◌, ◌++◌, IsTrue, refl, sym, ap, ap₂, ◌∙◌, subst, Decides, ◌⊎◌, inl, inr, nat_eq, rules}
+use Rattle.std.proofs.Common.{◌≡◌, ℕ, Bool, true, false, ◌&&◌, List, [], ◌∷◌, refl, ap, ap₂, Decides, ◌⊎◌, inl, inr, nat_eq, rules}
 use Rattle.std.proofs.lemmas.Bool.Decides.{Decides-int_eq}
 use Rattle.std.proofs.lemmas.Bool.{eq-eqb, ne_eqb, cases_eq}
-use Rattle.std.proofs.lemmas.List.{append_assoc}
 use denote.Enum.Bare.{same_true, true_same}
 use Rattle.fst_base.specs.contracts.op.Op.{the_type}
 use Rattle.fst_base.proofs.DecideLemmas.{decided-no, decided-by, decided-both}
@@ -11,7 +10,7 @@ use Rattle.fst_base.specs.declared.op.Op.{Op}
 use Rattle.fst_base.specs.Rows.{same_op}
 use Rattle.fst_base.specs.Values.{same_bool}
 use Rattle.fst_terms.specs.Terms.{Tm, Tms, t_var, t_int, t_bool, t_unit, t_prim, t_if, t_app, t_let, t_end, t_more}
-use Rattle.fst_terms.specs.Same.{same_name, same_term, same_terms, is_among, firsts}
+use Rattle.fst_terms.specs.Same.{same_name, same_term, same_terms}
 
 nat_eq-decides : (i j : ℕ) → Decides (nat_eq i j) (i ≡ j)
 nat_eq-decides i j = go (cases_eq i j)

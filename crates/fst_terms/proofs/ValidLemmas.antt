@@ -1,5 +1,5 @@
 -- A propositional sequent is valid exactly where no branch of its flat form is open.
-use Rattle.std.proofs.Common.{◌≡◌, ℕ, zero, suc, ◌+◌, Bool, true, false, if◌then◌else◌, List, [], ◌∷◌, ◌++◌, map, length, reverse, slice_get, Option, Some, None, IsTrue, refl, sym, ap, ap₂, ◌∙◌, subst, arith}
+use Rattle.std.proofs.Common.{◌≡◌, ℕ, zero, suc, ◌+◌, Bool, true, false, if◌then◌else◌, List, [], ◌∷◌, ◌++◌, map, length, slice_get, Option, Some, IsTrue, refl, sym, ap, ◌∙◌, arith}
 use Rattle.std.specs.Prelude.{⊤, unwrap_or}
 use Rattle.fst_base.specs.Sorts.{Srt, s_unit, s_bool}
 use Rattle.fst_base.specs.Values.{Val, v_unit, v_bool, Has, HasSorts}
@@ -7,9 +7,9 @@ use Rattle.fst_base.specs.Primitives.{is_true}
 use mathlib.Core.List.{reverse_aux}
 use Rattle.fst_terms.specs.Terms.{Tm, t_var, t_bool}
 use Rattle.fst_terms.specs.Meaning.{Env, Meaning, value, lookup, Truth, AllTrue, IsValid, Vr, Sqt}
-use Rattle.fst_terms.specs.Same.{same_term, is_among, firsts}
+use Rattle.fst_terms.specs.Same.{same_term, is_among}
 use Rattle.fst_terms.specs.declared.flat.Mark.{Mark}
-use Rattle.fst_terms.specs.Flats.{Flt, cleared, atoms_in, all_atoms_in, parts_of_each, literals, sorts_of_vars, flat_of, truth_of, mark_of, reading, reads, AllRead, IsOpen}
+use Rattle.fst_terms.specs.Flats.{Flt, cleared, atoms_in, all_atoms_in, parts_of_each, literals, sorts_of_vars, flat_of, truth_of, mark_of, reads, AllRead, IsOpen}
 use Rattle.fst_terms.specs.Propositional.{SortPropositional, TmPropositional, FormulasPropositional, VarsPropositional, IsPropositional}
 use Rattle.fst_terms.proofs.MemberLemmas.{Includes, AllTm, all-append, firsts-include, firsts-all, all-at}
 use Rattle.fst_terms.proofs.PropositionalLemmas.{value-has, bool-value, cleared-propositional, cleared-value, Agrees, reading-is}
@@ -26,7 +26,7 @@ includes-right [] us ws h = h
 includes-right (t ∷ ts) us ws h = includes-right ts us ws h.1
 
 -- the atoms of a formula are among these
-abbrev AtomsAmong : List Srt → List Tm → Tm → Type 0
+abbrev pub AtomsAmong : List Srt → List Tm → Tm → Type 0
 AtomsAmong Ss us t = Includes (atoms_in Ss t) us
 
 each-among : (Ss : List Srt) (us ts : List Tm) → Includes (all_atoms_in Ss ts) us → AllTm (AtomsAmong Ss us) ts
@@ -60,31 +60,31 @@ true-restored M Ss n (t ∷ ts) e h k = (sym (cleared-value M Ss n t s_bool e h.
 -- ---- the flat form of a propositional sequent
 
 module _ (s : Sqt) (prop : IsPropositional s) where
-  abbrev sorts : List Srt
+  abbrev pub sorts : List Srt
   sorts = sorts_of_vars s.vars
 
-  abbrev flat : Flt
+  abbrev pub flat : Flt
   flat = flat_of s []
 
-  formulas-prop : FormulasPropositional sorts flat.formulas
+  pub formulas-prop : FormulasPropositional sorts flat.formulas
   formulas-prop = formulas-append sorts (map (cleared (length s.vars)) s.hyps) [] (formulas-cleared sorts (length s.vars) s.hyps prop.hyps) tt
 
-  goal-prop : TmPropositional sorts flat.goal s_bool
+  pub goal-prop : TmPropositional sorts flat.goal s_bool
   goal-prop = cleared-propositional sorts (length s.vars) s.goal s_bool prop.goal
 
   every-among : AllTm (AtomsAmong sorts flat.atoms) (map (cleared (length s.vars)) s.hyps ++ flat.goal ∷ [])
   every-among = each-among sorts flat.atoms _ (firsts-include [] (all_atoms_in sorts (map (cleared (length s.vars)) s.hyps ++ flat.goal ∷ [])))
 
-  formulas-among : AllTm (AtomsAmong sorts flat.atoms) flat.formulas
+  pub formulas-among : AllTm (AtomsAmong sorts flat.atoms) flat.formulas
   formulas-among = all-append (AtomsAmong sorts flat.atoms) (map (cleared (length s.vars)) s.hyps) [] (all-left (AtomsAmong sorts flat.atoms) (map (cleared (length s.vars)) s.hyps) (flat.goal ∷ []) every-among) tt
 
-  goal-among : AtomsAmong sorts flat.atoms flat.goal
+  pub goal-among : AtomsAmong sorts flat.atoms flat.goal
   goal-among = (all-right (AtomsAmong sorts flat.atoms) (map (cleared (length s.vars)) s.hyps) (flat.goal ∷ []) every-among).0
 
-  atoms-bool : AllTm (BoolVar sorts) flat.atoms
+  pub atoms-bool : AllTm (BoolVar sorts) flat.atoms
   atoms-bool = firsts-all (BoolVar sorts) [] _ tt (all-atoms-are sorts (map (cleared (length s.vars)) s.hyps ++ flat.goal ∷ []) (formulas-append sorts (map (cleared (length s.vars)) s.hyps) (flat.goal ∷ []) (formulas-cleared sorts (length s.vars) s.hyps prop.hyps) (goal-prop, tt)))
 
-  terms-units : (M : Meaning) (e : Env) → AllTm (UnitIs M e sorts) flat.terms
+  pub terms-units : (M : Meaning) (e : Env) → AllTm (UnitIs M e sorts) flat.terms
   terms-units M e = firsts-all (UnitIs M e sorts) [] (parts_of_each flat.atoms ++ literals) tt (all-append (UnitIs M e sorts) (parts_of_each flat.atoms) literals (atoms-no-units M e sorts flat.atoms atoms-bool) (literals-units M e sorts))
 
   -- ---- an environment gives marks
@@ -176,28 +176,29 @@ turned-propositional : (look : Tm → Option Bool) (xs : List Vr) (Ss : List Srt
 turned-propositional look [] Ss h k = k
 turned-propositional look (x ∷ xs) Ss h k = turned-propositional look xs (x.sort ∷ Ss) h.1 (h.0, k)
 
-module _ (s : Sqt) (prop : IsPropositional s) (ms : List Mark) (open_branch : IsOpen (flat_of s []) ms) (M : Meaning) where
-  -- what the branch says of an atom, and the environment that it gives
-  abbrev look : Tm → Option Bool
+module _ (s : Sqt) (prop : IsPropositional s) (ms : List Mark) (marked : length ms ≡ length (flat_of s []).atoms) (M : Meaning) where
+  -- what the marks say of an atom, and the environment that they give
+  abbrev pub look : Tm → Option Bool
   look = mark_of (flat s prop).atoms ms
 
-  abbrev world : Env
+  abbrev pub world : Env
   world = env_from look 0 (sorts s prop)
 
-  world-has : HasSorts (sorts s prop) world
+  pub world-has : HasSorts (sorts s prop) world
   world-has = env-has look 0 (sorts s prop) (turned-propositional look s.vars [] prop.vars tt)
 
-  atom-value : (t : Tm) → BoolVar (sorts s prop) t → (b : Bool) → look t ≡ Some b → look t ≡ Some (is_true (value M t world))
+  pub atom-value : (t : Tm) → BoolVar (sorts s prop) t → (b : Bool) → look t ≡ Some b → look t ≡ Some (is_true (value M t world))
   atom-value (t_var i) h b q = q ∙ ap Some (sym (ap is_true (env-lookup look 0 i (sorts s prop) h ∙ ap (λ j. v_bool (unwrap_or (look (t_var j)) false)) (omega arith)) ∙ ap (λ o. unwrap_or o false) q))
   atom-value t h b q = absurd h
 
   branch-agrees : (ts : List Tm) → Includes ts (flat s prop).atoms → Agrees M (sorts s prop) world world-has look ts
   branch-agrees [] h = tt
   branch-agrees (t ∷ ts) h =
-      let there = mark-there (flat s prop).atoms ms t open_branch.marked h.0 in
+      let there = mark-there (flat s prop).atoms ms t marked h.0 in
       (atom-value t (all-at (BoolVar (sorts s prop)) (flat s prop).atoms t (atoms-bool s prop) h.0) there.0 there.1, branch-agrees ts h.1)
 
-  branch-reads : (t : Tm) → TmPropositional (sorts s prop) t s_bool → AtomsAmong (sorts s prop) (flat s prop).atoms t → reads (flat s prop) ms t ≡ Some (is_true (value M t world))
+  -- a formula has its value in that environment
+  pub branch-reads : (t : Tm) → TmPropositional (sorts s prop) t s_bool → AtomsAmong (sorts s prop) (flat s prop).atoms t → reads (flat s prop) ms t ≡ Some (is_true (value M t world))
   branch-reads t h k = reading-is M (sorts s prop) world world-has look t h (branch-agrees (atoms_in (sorts s prop) t) k)
 
   some-same : (a b : Bool) → Some a ≡ Some b → a ≡ b
@@ -212,18 +213,18 @@ module _ (s : Sqt) (prop : IsPropositional s) (ms : List Mark) (open_branch : Is
   true-left [] us h = tt
   true-left (t ∷ ts) us h = (h.0, true-left ts us h.1)
 
-  world-hyps : AllTrue M s.hyps world
-  world-hyps = true-restored M (sorts s prop) (length s.vars) s.hyps world prop.hyps (true-left _ [] (branch-true (flat s prop).formulas (formulas-prop s prop) (formulas-among s prop) open_branch.formulas))
+  world-hyps : AllRead (flat s prop) ms (flat s prop).formulas → AllTrue M s.hyps world
+  world-hyps read = true-restored M (sorts s prop) (length s.vars) s.hyps world prop.hyps (true-left _ [] (branch-true (flat s prop).formulas (formulas-prop s prop) (formulas-among s prop) read))
 
-  goal-false : is_true (value M s.goal world) ≡ false
-  goal-false = ap is_true (sym (cleared-value M (sorts s prop) (length s.vars) s.goal s_bool world prop.goal)) ∙ some-same _ _ (sym (branch-reads (flat s prop).goal (goal-prop s prop) (goal-among s prop)) ∙ open_branch.goal)
+  goal-false : reads (flat s prop) ms (flat s prop).goal ≡ Some false → is_true (value M s.goal world) ≡ false
+  goal-false read = ap is_true (sym (cleared-value M (sorts s prop) (length s.vars) s.goal s_bool world prop.goal)) ∙ some-same _ _ (sym (branch-reads (flat s prop).goal (goal-prop s prop) (goal-among s prop)) ∙ read)
 
-  not-valid : IsValid M s → ⊥
-  not-valid valid = no (sym (ap is_true (valid world world-has world-hyps)) ∙ goal-false)
+  not-valid : IsOpen (flat s prop) ms → IsValid M s → ⊥
+  not-valid opens valid = no (sym (ap is_true (valid world world-has (world-hyps opens.formulas))) ∙ goal-false opens.goal)
     where
       no : true ≡ false → ⊥
       no q = cc
 
 -- where a branch is open, the sequent isn't valid
 pub open-refutes : (M : Meaning) (s : Sqt) → IsPropositional s → (ms : List Mark) → IsOpen (flat_of s []) ms → IsValid M s → ⊥
-open-refutes M s prop ms h valid = not-valid s prop ms h M valid
+open-refutes M s prop ms h valid = not-valid s prop ms h.marked M h valid

@@ -1,10 +1,9 @@
 -- Flat forms of propositional sequents: atoms and numbered terms; what a formula is under marks; open branches.
-use Rattle.std.specs.Prelude.{◌≡◌, ◌⊎◌, ℕ, zero, suc, ◌<◌, Bool, true, false, if◌then◌else◌, List, [], ◌∷◌, ◌++◌, map, length, reverse, Option, Some, None, IsTrue, ⊤}
-use Rattle.fst_base.specs.declared.op.Op.{Op}
+use Rattle.std.specs.Prelude.{◌≡◌, ◌⊎◌, ℕ, suc, ◌<◌, Bool, true, false, if◌then◌else◌, List, [], ◌∷◌, ◌++◌, map, length, reverse, Option, Some, None, IsTrue, ⊤}
 use Rattle.fst_base.specs.declared.op.Op.TheVariants as op
 use Rattle.fst_base.specs.Sorts.{Srt, s_unit, s_bool}
 use Rattle.fst_base.specs.Values.{same_bool}
-use Rattle.fst_terms.specs.Terms.{Tm, Tms, t_var, t_int, t_bool, t_unit, t_prim, t_if, t_app, t_let, t_end, t_more, listed, plain_term}
+use Rattle.fst_terms.specs.Terms.{Tm, Tms, t_bool, t_unit, t_prim, t_if, t_app, t_let, t_end, t_more, plain_term}
 use Rattle.fst_terms.specs.Meaning.{Vr, Sqt, plain_var}
 use Rattle.fst_terms.specs.Formulas.{put, vars_from, sort_of}
 use Rattle.fst_terms.specs.Same.{same_term, is_among, firsts}

@@ -1,11 +1,18 @@
-ghost use Rattle.std.specs.Prelude.{◌≡◌, codes, IfOk};
-ghost use Rattle.fst_terms.specs.Terms.{plain_term, t_var, t_unit, t_if, t_let};
+ghost use Rattle.std.specs.Prelude.{◌≡◌, [], ◌∷◌, codes, map, IfOk};
+ghost use Rattle.fst_base.specs.Sorts.{s_bool, s_unit};
+ghost use Rattle.fst_terms.specs.Flats.{sorts_of_vars};
+ghost use Rattle.fst_terms.specs.Meaning.{plain_sequent, plain_var};
+ghost use Rattle.fst_terms.specs.Propositional.{IsPropositional, TmPropositional, VarsPropositional};
+ghost use Rattle.fst_terms.specs.Terms.{plain_term, t_var, t_unit, t_prim, t_if, t_let, t_end, t_more};
 
+use crate::flat::Flat;
 use crate::free::free_in;
+use crate::preparing::{both, prepare};
+use crate::sequent::{Sequent, Var};
 use crate::shifting::shift;
 use crate::substitution::subst;
 use crate::term::Term;
-use fst_base::{Box, Name, OutOfMemory};
+use fst_base::{Box, Name, Op, OutOfMemory, Pos, Seq, Sort};
 use std::alloc::Global;
 use std::test::Fail;
 
@@ -81,6 +88,109 @@ fn indices_under_a_let(rt: HostRuntime) -> Result<(), Fail> {
     let term = a_let(rt.alloc(), 1, 3)?.copy(rt.alloc())?;
     for (index, wanted) in &[(0, false), (1, true), (2, true), (3, false)] {
         assert_eq!(rt; free_in(&term, *index), *wanted);
+    }
+    Ok(())
+}
+
+/// The equation of two terms, at place 7.
+fn an_equation(alloc: Global, left: Term, right: Term) -> Result<Term, OutOfMemory>
+    ensures { IfOk result (λ t. plain_term t ≡ t_prim Op.Eq s_bool (t_more (plain_term left) (t_more (plain_term right) t_end)) 7) }
+{
+    let mut sides = Seq::new(alloc);
+    sides.push(left)?;
+    sides.push(right)?;
+    Ok(Term::Prim(Op::Eq, Sort::Bool, sides, Pos { at: 7 }))
+}
+
+/// A goal over the variables a and b of sort bool, 2 and 1, and u of sort unit, 0.
+#[derive(Clone, Copy)]
+enum Shape {
+    /// if a then b else a
+    Choice,
+    /// a = b
+    Bools,
+    /// u = ()
+    Units,
+    /// (u = ()) = (if b then a else b)
+    Nested,
+}
+
+fn choice(alloc: Global, test: u32, left: u32, right: u32) -> Result<Term, OutOfMemory>
+    ensures { IfOk result (λ t. plain_term t ≡ t_if (t_var test) (t_var left) (t_var right)) }
+{
+    let test = Box::new(alloc, Term::Var(test))?;
+    let left = Box::new(alloc, Term::Var(left))?;
+    Ok(Term::If(test, left, Box::new(alloc, Term::Var(right))?))
+}
+
+fn goal_of(alloc: Global, shape: Shape) -> Result<Term, OutOfMemory>
+    ensures { IfOk result (λ t. TmPropositional (s_unit ∷ s_bool ∷ s_bool ∷ []) (plain_term t) s_bool) }
+{
+    match shape {
+        Shape::Choice => choice(alloc, 2, 1, 2),
+        Shape::Bools => an_equation(alloc, Term::Var(2), Term::Var(1)),
+        Shape::Units => an_equation(alloc, Term::Var(0), Term::Unit),
+        Shape::Nested => {
+            let units = an_equation(alloc, Term::Var(0), Term::Unit)?;
+            let (units, choice) = both(units, choice(alloc, 1, 2, 1))?;
+            an_equation(alloc, units, choice)
+        }
+    }
+}
+
+fn var(alloc: Global, name: &str, sort: Sort) -> Result<Var, OutOfMemory>
+    ensures { IfOk result (λ var. var.sort ≡ sort) }
+{
+    let name = Name::new(alloc, name)?;
+    Ok(Var { name, sort })
+}
+
+fn vars(alloc: Global) -> Result<Seq<Var>, OutOfMemory>
+    ensures sorts { IfOk result (λ vars. sorts_of_vars (map plain_var vars) ≡ s_unit ∷ s_bool ∷ s_bool ∷ []) }
+    ensures propositional { IfOk result (λ vars. VarsPropositional (map plain_var vars)) }
+{
+    let mut vars = Seq::new(alloc);
+    vars.push(var(alloc, "a", Sort::Bool)?)?;
+    vars.push(var(alloc, "b", Sort::Bool)?)?;
+    vars.push(var(alloc, "u", Sort::Unit)?)?;
+    Ok(vars)
+}
+
+/// The flat form of the sequent with that goal.
+fn flat_form(alloc: Global, shape: Shape) -> Result<Flat, OutOfMemory> {
+    let (vars, goal) = both(vars(alloc)?, goal_of(alloc, shape))?;
+    let sequent = Sequent {
+        vars,
+        hyps: Seq::new(alloc),
+        goal,
+    };
+    prepare(alloc, &sequent, &Seq::new(alloc))
+}
+
+fn are_variables(terms: &[Term], wanted: &[u32]) -> bool {
+    if terms.len() != wanted.len() {
+        return false;
+    }
+    for at in 0..wanted.len() {
+        if !is_variable(&terms[at], wanted[at]) {
+            return false;
+        }
+    }
+    true
+}
+
+#[test]
+fn atoms_of_flat_forms(rt: HostRuntime) -> Result<(), Fail> {
+    let rows: [(Shape, &[u32]); 4] = [
+        (Shape::Choice, &[2, 1]),
+        (Shape::Bools, &[2, 1]),
+        (Shape::Units, &[]),
+        (Shape::Nested, &[1, 2]),
+    ];
+    for (shape, wanted) in &rows {
+        let flat = flat_form(rt.alloc(), *shape)?;
+        assert!(rt; are_variables(flat.atoms.as_slice(), wanted));
+        assert_eq!(rt; flat.terms.len(), wanted.len() + 3);
     }
     Ok(())
 }

@@ -1,12 +1,13 @@
 -- Where the goals of a built program are valid, its functions are good.
-use Rattle.std.proofs.Common.{◌≡◌, ℕ, zero, suc, ◌+◌, ◌-◌, ◌<◌, Bool, true, false, if◌then◌else◌, List, [], ◌∷◌, ◌++◌, nat_lt, map, reverse, length, Option, Some, None, refl, sym, ap, ap₂, ◌∙◌, subst, arith, ◌⊎◌, inl, inr}
+use Rattle.std.proofs.Common.{◌≡◌, ℕ, zero, suc, ◌+◌, ◌-◌, ◌<◌, Bool, true, false, if◌then◌else◌, List, [], ◌∷◌, ◌++◌, map, reverse, length, Option, Some, None, refl, sym, ap, ap₂, ◌∙◌, subst, arith, ◌⊎◌, inl, inr}
 use Rattle.fst_base.specs.declared.op.Op.TheVariants as op
 use Rattle.fst_base.specs.Sorts.{Srt, s_bool}
 use Rattle.fst_base.specs.Values.{Val, v_unit, v_bool, HasSorts, same}
 use Rattle.fst_base.specs.Primitives.{is_true}
-use Rattle.fst_terms.specs.Terms.{Tm, Tms, t_var, t_int, t_bool, t_unit, t_prim, t_if, t_app, t_let, t_end, t_more, shift, shifts}
+use Rattle.fst_terms.specs.Terms.{Tm, t_var, t_int, t_bool, t_unit, t_prim, t_if, t_app, t_let, t_end, t_more}
 use Rattle.fst_terms.specs.Meaning.{Env, Meaning, value, AllTrue, HasVars, Vr}
 use Rattle.fst_terms.specs.Formulas.{negation, put, vars_from}
+use Rattle.fst_terms.proofs.IndexLemmas.{shift-zero}
 use Rattle.fst_terms.proofs.PutLemmas.{put_values, put-value}
 use Rattle.fst_program.specs.declared.goal.SiteKind.TheVariants as kind
 use Rattle.std.proofs.lemmas.List.{reverse-reverse, length-reverse}
@@ -48,40 +49,21 @@ module _ (M : Meaning) where
 
 -- ---- terms raised by nothing
 
-mutual
-  shift-none : (from : ℕ) (t : Tm) → shift from 0 t ≡ t
-  shift-none from (t_var i) = go (nat_lt i from)
-    where
-      go : (x : Bool) → t_var (if x then i else i + 0) ≡ t_var i
-      go true = refl
-      go false = ap t_var (omega arith)
-  shift-none from (t_int n) = refl
-  shift-none from (t_bool b) = refl
-  shift-none from t_unit = refl
-  shift-none from (t_prim o S ts at) = ap (λ us. t_prim o S us at) (shifts-none from ts)
-  shift-none from (t_if c t u) = rw (shift-none from c, shift-none from t, shift-none from u) refl
-  shift-none from (t_app k S ts) = ap (t_app k S) (shifts-none from ts)
-  shift-none from (t_let x t u) = rw (shift-none from t, shift-none (suc from) u) refl
-
-  shifts-none : (from : ℕ) (ts : Tms) → shifts from 0 ts ≡ ts
-  shifts-none from t_end = refl
-  shifts-none from (t_more t ts) = ap₂ t_more (shift-none from t) (shifts-none from ts)
-
 -- where a way has as many variables as before, terms stay as they are
 raised-none : (n : ℕ) (w : Way) (t : Tm) → count w ≡ n → raised n w t ≡ t
-raised-none n w t e = let z : count w - n ≡ 0 = omega arith in rw z (shift-none 0 t)
+raised-none n w t e = let z : count w - n ≡ 0 = omega arith in rw z (shift-zero 0 t)
 
-all-raised-none : (n : ℕ) (w : Way) (ts : List Tm) → count w ≡ n → all_raised n w ts ≡ ts
+pub all-raised-none : (n : ℕ) (w : Way) (ts : List Tm) → count w ≡ n → all_raised n w ts ≡ ts
 all-raised-none n w [] e = refl
 all-raised-none n w (t ∷ ts) e = ap₂ ◌∷◌ (raised-none n w t e) (all-raised-none n w ts e)
 
 -- ---- goals
 
-valid-left : (M : Meaning) (gs hs : List Gl) → GoalsValid M (gs ++ hs) → GoalsValid M gs
+pub valid-left : (M : Meaning) (gs hs : List Gl) → GoalsValid M (gs ++ hs) → GoalsValid M gs
 valid-left M [] hs h = tt
 valid-left M (g ∷ gs) hs h = (h.0, valid-left M gs hs h.1)
 
-valid-right : (M : Meaning) (gs hs : List Gl) → GoalsValid M (gs ++ hs) → GoalsValid M hs
+pub valid-right : (M : Meaning) (gs hs : List Gl) → GoalsValid M (gs ++ hs) → GoalsValid M hs
 valid-right M [] hs h = h
 valid-right M (g ∷ gs) hs h = valid-right M gs hs h.1
 
@@ -213,7 +195,7 @@ own-values M (v ∷ e) = ap (λ vs. v ∷ vs) (later 0 (length e) ∙ own-values
     later i zero = refl
     later i (suc n) = ap₂ ◌∷◌ refl (later (suc i) n)
 
-suppose-all-vars : (phis : List Tm) (w : Way) → (suppose_all phis w).vars ≡ w.vars
+pub suppose-all-vars : (phis : List Tm) (w : Way) → (suppose_all phis w).vars ≡ w.vars
 suppose-all-vars [] w = refl
 suppose-all-vars (phi ∷ phis) w = suppose-all-vars phis (suppose phi w)
 
@@ -229,7 +211,7 @@ turned-true : (M : Meaning) (e : Env) (phis psis : List Tm) → AllTrue M phis e
 turned-true M e [] psis h k = k
 turned-true M e (phi ∷ phis) psis h k = turned-true M e phis (phi ∷ psis) h.1 (h.0, k)
 
-no-refinements : (ps : List Prm) (ts us : List Tm) → ParamsBuilt ps → refinements ps ts us ≡ []
+pub no-refinements : (ps : List Prm) (ts us : List Tm) → ParamsBuilt ps → refinements ps ts us ≡ []
 no-refinements [] ts us h = refl
 no-refinements (p ∷ ps) [] us h = refl
 no-refinements (p ∷ ps) (t ∷ ts) us h = rw (h.2, no-refinements ps ts (t ∷ us) h.3) refl
@@ -246,7 +228,7 @@ have-length [] (v ∷ vs) h = absurd h
 have-length (p ∷ ps) [] h = absurd h
 have-length (p ∷ ps) (v ∷ vs) h = ap suc (have-length ps vs h.1)
 
-var-sorts : (ps : List Prm) → map (λ (x : Vr). x.sort) (map (λ (p : Prm). record { name = p.name; sort = p.sort }) ps) ≡ map (λ p. p.sort) ps
+pub var-sorts : (ps : List Prm) → map (λ (x : Vr). x.sort) (map (λ (p : Prm). record { name = p.name; sort = p.sort }) ps) ≡ map (λ p. p.sort) ps
 var-sorts [] = refl
 var-sorts (p ∷ ps) = ap (λ Ss. p.sort ∷ Ss) (var-sorts ps)
 

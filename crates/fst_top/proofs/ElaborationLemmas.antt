@@ -23,7 +23,7 @@ term-Ident at w xs = search (rules, D.the_lemmas)
 pub term-If : (at : Pos) (c x y : Form Word) (xs : Scope) → term_of (form at (V.If c x y)) xs ≡ given_some (term_of c xs) (λ s. given_some (term_of x xs) (λ t. given_some (term_of y xs) (λ u. if_of s t u)))
 term-If at c x y xs = search (rules, D.the_lemmas)
 
-term-Prim : (at : Pos) (o : Op) (fs : List (Form Word)) (xs : Scope) → term_of (form at (V.Prim o fs)) xs ≡ node_layer (F.Prim o (map term_of fs)) at.at xs
+pub term-Prim : (at : Pos) (o : Op) (fs : List (Form Word)) (xs : Scope) → term_of (form at (V.Prim o fs)) xs ≡ node_layer (F.Prim o (map term_of fs)) at.at xs
 term-Prim at o fs xs = search (rules, D.the_lemmas)
 
 no-equation : (o : Op) (ts : List (Scope → Option Typed)) (at : ℕ) (xs : Scope) → (o ≡ op.Eq → ⊥) → node_layer (F.Prim o ts) at xs ≡ None

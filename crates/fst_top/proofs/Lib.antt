@@ -4,3 +4,20 @@ pub mod ScopeLemmas
 pub mod BodyLemmas
 pub mod HeadLemmas
 pub mod NamedLemmas
+pub mod DueLemmas
+mod PrintLemmas
+pub mod CheckedLemmas
+pub mod TopLemmas
+pub mod GatheredLemmas
+pub mod FunctionLemmas
+pub mod StopLemmas
+pub mod TypingLemmas
+pub mod FormInduction
+pub mod BodyInduction
+pub mod TypedTreeLemmas
+pub mod ProgramBuilt
+pub mod JoinLemmas
+pub mod InstantiateLemmas
+pub mod WayLemmas
+pub mod GoalLemmas
+pub mod PropositionalGoals

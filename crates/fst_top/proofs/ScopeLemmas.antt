@@ -15,7 +15,7 @@ use Rattle.fst_top.specs.Elaborating.{srt_of, binding_var, plain_typed}
 use Rattle.fst_top.specs.Elaboration.{Typed, typed, variable}
 
 -- what stands at an index begins the rest from there
-drop-at : {A : Type 0} (k : ℕ) (xs : List A) (x : A) → slice_get xs k ≡ Some x → drop k xs ≡ x ∷ drop (suc k) xs
+pub drop-at : {A : Type 0} (k : ℕ) (xs : List A) (x : A) → slice_get xs k ≡ Some x → drop k xs ≡ x ∷ drop (suc k) xs
 drop-at zero (y ∷ ys) x q = let e : y ≡ x = cc in ap (λ z. z ∷ ys) e
 drop-at (suc k) (y ∷ ys) x q = drop-at k ys x q
 drop-at zero [] x q = cc

@@ -1,7 +1,8 @@
--- The programs that are built so far: PURE functions over bool and unit, without calls.
+-- The first programs: PURE functions over bool and unit, without calls.
 use Rattle.std.specs.Prelude.{◌≡◌, ℕ, List, [], ◌∷◌, Option, Some, None, map, reverse, ⊤, false}
 use Rattle.fst_base.specs.Sorts.{Srt, s_bool}
 use Rattle.fst_terms.specs.Terms.{Tm}
+use Rattle.fst_terms.specs.Meaning.{Vr}
 use Rattle.fst_terms.specs.Propositional.{SortPropositional, TmPropositional}
 use Rattle.fst_program.specs.declared.effect.Effect.TheVariants as effect
 use Rattle.fst_program.specs.Texts.{Cm, c_ret, c_let, c_if, Prm, Fn, Prog, fun_at}
@@ -17,6 +18,10 @@ CmBuilt Ss _ S = ⊥
 abbrev pub ParamsBuilt : List Prm → Type 0
 ParamsBuilt [] = ⊤
 ParamsBuilt (p ∷ ps) = SortPropositional p.sort × (p.hidden ≡ false) × (p.refine ≡ None) × ParamsBuilt ps
+
+-- the parameter as a variable
+abbrev pub var_of : Prm → Vr
+var_of p = record { name = p.name; sort = p.sort }
 
 abbrev pub sorts_of : List Prm → List Srt
 sorts_of ps = reverse (map (λ p. p.sort) ps)

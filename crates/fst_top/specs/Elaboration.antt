@@ -1,5 +1,6 @@
--- The program that a tree is, for the programs that are built so far: indices for names, and a sort for each term; None where the
--- tree holds something that isn't built, a name isn't in scope or is declared twice, or a term doesn't fit its sort.
+-- The program that a tree is, for the first programs (PURE functions over bool and unit, without calls): indices for names, and a sort
+-- for each term; None where the tree holds something that isn't built, a name isn't in scope or is declared twice, or a term doesn't fit
+-- its sort.
 use Rattle.std.specs.Prelude.{ℕ, suc, nat_le, nat_eq, Bool, true, false, ◌&&◌, ◌||◌, not, if◌then◌else◌, List, [], ◌∷◌, ◌++◌, map, reverse, length, codes, Option, Some, None}
 use Rattle.fst_base.specs.declared.op.Op.{Op}
 use Rattle.fst_base.specs.declared.op.Op.TheVariants as op

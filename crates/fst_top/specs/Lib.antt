@@ -1,4 +1,15 @@
+pub mod Branches
 pub mod Built
 pub mod Elaboration
 pub mod Elaborating
 pub mod Scopes
+pub mod Help
+pub mod Printed
+pub mod Statuses
+pub mod Answers
+pub mod Answering
+pub mod Commands
+pub mod Outcomes
+pub mod Functions
+pub mod Goals
+pub mod Ways

@@ -1,4 +1,18 @@
 //! The top call: from words, a shelf and a sink to a text and a status.
 #![tactic(auto)]
 
+mod branches;
+mod checking;
 mod elaborate;
+mod goals;
+mod laws;
+mod print;
+mod status;
+#[cfg(test)]
+mod tests;
+mod token_words;
+mod top;
+mod words;
+
+pub use laws::a_text_is_at_most_one_program;
+pub use top::fstar;

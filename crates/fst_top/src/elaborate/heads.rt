@@ -1,14 +1,16 @@
-ghost use Rattle.std.specs.Prelude.{◌≡◌, ◌||◌, [], map, option_map, OnOk};
+ghost use Rattle.std.specs.Prelude.{◌≡◌, ◌||◌, [], map, option_map, IfOk, OnOk};
 ghost use Rattle.fst_terms.specs.Terms.{plain_term};
 ghost use Rattle.fst_program.specs.Plain.{plain_param};
+ghost use Rattle.fst_top.specs.Built.{var_of};
 ghost use Rattle.fst_top.specs.Elaboration.{clause_of, is_blank, is_named, param_of, sort_of_tree};
-ghost use Rattle.fst_top.specs.Elaborating.{Gives, srt_of};
+ghost use Rattle.fst_top.specs.Elaborating.{Gives, binding_var, srt_of};
+ghost use Rattle.fst_top.specs.Functions.{first_plain_param};
 ghost use Rattle.fst_top.specs.Scopes.{vars_in};
 
 use crate::elaborate::scope::Scope;
 use crate::elaborate::stop::{Stop, refuse};
 use crate::elaborate::terms::elaborate_term;
-use crate::elaborate::typed::BuiltSort;
+use crate::elaborate::typed::{Binding, BuiltSort};
 use fst_base::Name;
 use fst_program::Param;
 use fst_reader::{ParamTree, RawTerm, SortTree, Word};
@@ -32,9 +34,13 @@ pub fn elaborate_sort(tree: &SortTree<Word>) -> Option<BuiltSort>
     }
 }
 
-/// A parameter without refinement, and not a ghost one.
-pub fn elaborate_param(alloc: Global, tree: &ParamTree<Word>) -> Result<Param, Stop>
-    ensures { Gives plain_param (param_of tree.now) result }
+/// A parameter without refinement, and not a ghost one; and the same as a variable.
+pub fn elaborate_param<'a>(
+    alloc: Global,
+    tree: &'a ParamTree<Word>,
+) -> Result<(Param, Binding<'a>), Stop>
+    ensures param { Gives first_plain_param (param_of tree.now) result }
+    ensures binding { IfOk result (λ pair. binding_var pair.1 ≡ var_of (plain_param pair.0)) }
 {
     let Some(sort) = elaborate_sort(&tree.sort) else {
         return Err(Stop::NotBuilt);
@@ -42,13 +48,14 @@ pub fn elaborate_param(alloc: Global, tree: &ParamTree<Word>) -> Result<Param, S
     if tree.hidden || tree.refine.is_some() {
         return Err(Stop::NotBuilt);
     }
-    let name = tree.name.text.copy(alloc)?;
-    Ok(Param {
-        name,
+    let param = Param {
+        name: tree.name.text.copy(alloc)?,
         sort: sort.sort(),
         hidden: false,
         refine: None,
-    })
+    };
+    let name = &tree.name.text;
+    Ok((param, Binding { name, sort }))
 }
 
 /// Whether a parameter has the name.

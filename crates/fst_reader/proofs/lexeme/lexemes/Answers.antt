@@ -1,4 +1,4 @@
-use Rattle.std.proofs.Common.{◌≡◌, List, [], ◌∷◌, ◌++◌, map, Option, Some, refl, sym, ◌∙◌, ap, subst}
+use Rattle.std.proofs.Common.{◌≡◌, List, [], ◌∷◌, ◌++◌, map, Option, Some, refl, ◌∙◌, ap, subst}
 use Rattle.std.proofs.lemmas.List.{map-append}
 use Rattle.fst_reader.specs.Tokens.{Token}
 use Rattle.fst_reader.specs.Lexemes.{bad}
@@ -10,6 +10,6 @@ last_bad f g xs ys x ts fault at all e h k l m =
     ap (map f) l ∙ map-append f xs (x ∷ []) ∙ ap (λ us. map f xs ++ us) m
     ∙ subst (λ us. map f xs ++ (map g us ++ bad (Some at)) ≡ all) h (subst (λ o. map f xs ++ (map g ts ++ bad o) ≡ all) k e)
 
-pub returns-in-Err : goal.returns-in-Err
-returns-in-Err c = let left = (c.in-Err.ensures.err c.in-Err.at).0 refl in
+pub returns-in-Err-clause-value : goal.returns-in-Err-clause-value
+returns-in-Err-clause-value c = let left = (c.in-Err.ensures.err c.in-Err.at).0 refl in
     last_bad _ _ _ _ c.bad.result _ _ _ _ c.tokens.invariant.so_far left.0 left.1 c.in_ok-push-in-Err.ensures.items (ap (λ t. t ∷ []) c.bad.ensures)

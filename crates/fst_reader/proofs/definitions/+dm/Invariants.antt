@@ -1,0 +1,4 @@
+use Rattle.fst_reader.proofs.definitions.+dm.Given as goal
+
+abbrev pub decreases-dm : goal.decreases-dm
+decreases-dm l = l.room

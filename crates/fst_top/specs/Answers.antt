@@ -1,0 +1,132 @@
+-- Which text and status are due for which words and bytes.
+use Rattle.std.specs.Prelude.{◌≡◌, ◌⊎◌, ℕ, ◌<◌, ◌≤◌, ◌^◌, Bool, true, false, ◌&&◌, not, if◌then◌else◌, List, [], ◌∷◌, ◌++◌, length, Option, Some, None, codes, bytes_eq, ⊤}
+use Rattle.std.specs.List.{list_any}
+use Rattle.fst_base.specs.declared.place.Pos.{Pos}
+use Rattle.fst_base.specs.declared.rule.Rule.{Rule}
+use Rattle.fst_base.specs.declared.rule.Rule.TheVariants as rule
+use Rattle.fst_text.specs.Scans.{tokens, token_text}
+use Rattle.fst_terms.specs.Meaning.{Meaning, IsValid}
+use Rattle.fst_terms.specs.Flats.{flat_of, IsFirstOpen}
+use Rattle.fst_terms.specs.declared.flat.Mark.{Mark}
+use Rattle.fst_program.specs.Texts.{Prog}
+use Rattle.fst_program.specs.Paths.{Gl, goals_of, GoalsValid}
+use Rattle.fst_reader.specs.declared.word.Word.{Word}
+use Rattle.fst_reader.specs.declared.decl.Decl.{Decl}
+use Rattle.fst_reader.specs.Program.{IsProgram, IsRefused}
+use Rattle.fst_top.specs.Elaboration.{only_if, program_of}
+use Rattle.fst_top.specs.Printed.{refusal_text, plain_refusal_text, not_built_text, read_fault_text, yes_text, no_text}
+use Rattle.fst_top.specs.Help.{help_text, version_text}
+
+-- ---- what a text is
+
+-- the greatest number of bytes of a file
+abbrev pub longest : ℕ
+longest = 2 ^ 20
+
+-- the word stands among the tokens of the text
+abbrev pub has_word : (text word : List ℕ) → Bool
+has_word text word = list_any (λ t. bytes_eq (token_text text t) word) (tokens text)
+
+-- the program of these declarations, where it is one of the first programs: no depth of unfolding is written either
+abbrev pub program_in : (text : List ℕ) → List (Decl Word) → Option Prog
+program_in text decls = only_if (not (has_word text (codes "unfold"))) (program_of decls)
+
+-- the text is one of the first programs
+pub record Reads (text : List ℕ) (P : Prog) : Type 0 where
+  pub decls : List (Decl Word)
+  pub program : IsProgram text decls
+  pub first : program_in text decls ≡ Some P
+
+-- ---- the answers of `check`
+
+-- every goal is valid
+pub record IsYes (text printed : List ℕ) : Type 0 where
+  pub P : Prog
+  pub reads : Reads text P
+  pub valid : (M : Meaning) → GoalsValid M (goals_of P)
+  pub text_is : printed ≡ yes_text P
+
+-- the first of these goals that isn't valid, and its first open branch; all before it are valid
+pub record FirstNo (goals : List Gl) (goal : Gl) (marks : List Mark) : Type 0 where
+  pub before : List Gl
+  pub after : List Gl
+  pub goals_are : goals ≡ before ++ goal ∷ after
+  pub valid : (M : Meaning) → GoalsValid M before
+  pub open_branch : IsFirstOpen (flat_of goal.sequent []) marks
+  pub fails : (M : Meaning) → IsValid M goal.sequent → ⊥
+
+-- a no about the first of these goals that isn't valid
+pub record IsNoOf (P : Prog) (goals : List Gl) (text printed : List ℕ) : Type 0 where
+  pub goal : Gl
+  pub marks : List Mark
+  pub first : FirstNo goals goal marks
+  pub text_is : printed ≡ no_text P goal marks text
+
+-- some goal isn't valid
+pub record IsNo (text printed : List ℕ) : Type 0 where
+  pub P : Prog
+  pub reads : Reads text P
+  pub no : IsNoOf P (goals_of P) text printed
+
+-- a rule of reading is broken
+pub record IsRefusal (text printed : List ℕ) : Type 0 where
+  pub short : length text ≤ longest
+  pub broken : Rule
+  pub at : Pos
+  pub refused : IsRefused text broken at
+  pub text_is : printed ≡ refusal_text broken text at.at
+
+-- it is a program, and not one of the first programs
+pub record IsUnbuilt (text printed : List ℕ) : Type 0 where
+  pub decls : List (Decl Word)
+  pub program : IsProgram text decls
+  pub other : program_in text decls ≡ None
+  pub text_is : printed ≡ not_built_text
+
+abbrev pub TooLong : (text printed : List ℕ) → Type 0
+TooLong text printed = (longest < length text) × (printed ≡ plain_refusal_text rule.TooLong)
+
+-- the status and the text of `check` over the bytes of a file
+abbrev pub Checked : (text : List ℕ) → (status : ℕ) → (printed : List ℕ) → Type 0
+Checked text status printed =
+    ((status ≡ 0) × IsYes text printed)
+    ⊎ ((status ≡ 1) × IsNo text printed)
+    ⊎ ((status ≡ 2) × (TooLong text printed ⊎ IsRefusal text printed ⊎ IsUnbuilt text printed))
+
+-- ---- commands
+
+pub data Command : Type 0 where
+  help : Command
+  version : Command
+  check : (file : List ℕ) → Command
+
+-- the command that the words are
+abbrev pub command_of : List (List ℕ) → Option Command
+command_of (word ∷ []) = if bytes_eq word (codes "--help") then Some help else if bytes_eq word (codes "--version") then Some version else None
+command_of (word ∷ file ∷ []) = if bytes_eq word (codes "check") then Some (check file) else None
+command_of _ = None
+
+-- holds of the bytes, where they are told
+abbrev pub OfTold : Option (List ℕ) → (List ℕ → Type 0) → Type 0
+OfTold None Q = ⊥
+OfTold (Some text) Q = Q text
+
+-- the bytes of the command's file are told, where it has one
+abbrev pub IsTold : Option Command → (told : List ℕ → Option (List ℕ)) → Type 0
+IsTold (Some (check file)) told = OfTold (told file) (λ text. ⊤)
+IsTold _ told = ⊤
+
+-- the status and the text that are due for a command over told bytes
+abbrev pub DueTo : Option Command → (told : List ℕ → Option (List ℕ)) → (status : ℕ) → (printed : List ℕ) → Type 0
+DueTo None told status printed = (status ≡ 3) × (printed ≡ plain_refusal_text rule.BadWords)
+DueTo (Some help) told status printed = (status ≡ 0) × (printed ≡ help_text)
+DueTo (Some version) told status printed = (status ≡ 0) × (printed ≡ version_text)
+DueTo (Some (check file)) told status printed = OfTold (told file) (λ text. Checked text status printed)
+
+-- those that are due for the words
+abbrev pub Due : (words : List (List ℕ)) → (told : List ℕ → Option (List ℕ)) → (status : ℕ) → (printed : List ℕ) → Type 0
+Due words told status printed = DueTo (command_of words) told status printed
+
+-- a fetch or a put failed, or memory wanted
+abbrev pub IsFault : (status : ℕ) → Type 0
+IsFault status = (status ≡ 7) ⊎ (status ≡ 8) ⊎ (status ≡ 10)
