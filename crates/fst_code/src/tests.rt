@@ -34,7 +34,9 @@ fn lifts(alloc: Global, to: u32, variable: u32) -> Result<Seq<LiftDef>, OutOfMem
     Ok(lifts)
 }
 
-fn params(alloc: Global, hidden: bool, refine: Option<Formula>) -> Result<Seq<Param>, OutOfMemory> {
+/// One parameter with this refinement.
+fn params(alloc: Global, hidden: bool, refine: Formula) -> Result<Seq<Param>, OutOfMemory> {
+    let refine = Some(refine);
     let mut params = Seq::new(alloc);
     params.push(Param {
         name: Name::new(alloc, "x")?,
@@ -73,12 +75,6 @@ fn code(alloc: Global, fun: CodeFun) -> Result<Code, OutOfMemory> {
     })
 }
 
-/// Whether code is sound whose function of one parameter has this body.
-fn sound(alloc: Global, body: Comp) -> Result<bool, OutOfMemory> {
-    let fun = fun(alloc, params(alloc, false, None)?, Effect::Pure, body)?;
-    Ok(code(alloc, fun)?.sound())
-}
-
 fn var(index: u32) -> Comp {
     Comp::Ret(Term::Var(index))
 }
@@ -87,29 +83,8 @@ fn name(alloc: Global) -> Result<Name, OutOfMemory> {
     Name::new(alloc, "y")
 }
 
-fn let_in(alloc: Global, bound: u32, rest: u32) -> Result<Comp, OutOfMemory> {
-    Ok(Comp::Let(
-        name(alloc)?,
-        Box::new(alloc, var(bound))?,
-        Box::new(alloc, var(rest))?,
-    ))
-}
-
-fn ghost_let(alloc: Global) -> Result<Comp, OutOfMemory> {
-    Ok(Comp::GhostLet(
-        name(alloc)?,
-        Box::new(alloc, var(0))?,
-        Box::new(alloc, var(0))?,
-    ))
-}
-
-fn bind(alloc: Global, effect: u32, rest: u32) -> Result<Comp, OutOfMemory> {
-    Ok(Comp::Bind(
-        effect,
-        name(alloc)?,
-        Box::new(alloc, var(0))?,
-        Box::new(alloc, var(rest))?,
-    ))
+fn part(alloc: Global, index: u32) -> Result<Box<Comp>, OutOfMemory> {
+    Box::new(alloc, var(index))
 }
 
 /// A match whose one arm binds two names.
@@ -126,99 +101,142 @@ fn matching(alloc: Global, body: u32) -> Result<Comp, OutOfMemory> {
     Ok(Comp::Match(Term::Var(0), AT, arms))
 }
 
-fn call(alloc: Global, function: u32, argument: u32) -> Result<Comp, OutOfMemory> {
+fn args(alloc: Global, variable: u32) -> Result<Seq<Term>, OutOfMemory> {
     let mut args = Seq::new(alloc);
-    args.push(Term::Var(argument))?;
-    Ok(Comp::Call(function, args, AT))
+    args.push(Term::Var(variable))?;
+    Ok(args)
 }
 
-fn application(alloc: Global, function: u32) -> Result<Term, OutOfMemory> {
-    let mut args = Seq::new(alloc);
-    args.push(Term::Var(0))?;
-    Ok(Term::App(function, Sort::Bool, args))
+/// A text by its numbers: those of its functions, effects and lifts first, then those of its variables.
+#[derive(Clone, Copy, Debug)]
+enum Text {
+    Var(u32),
+    Let(u32, u32),
+    Match(u32),
+    Call(u32, u32),
+    Bind(u32, u32),
+    Return(u32),
+    Lift(u32),
+    GhostLet,
+    Assert,
+    Application,
 }
 
-#[test]
-fn variables_are_in_range(rt: HostRuntime) -> Result<(), Fail> {
-    let alloc = rt.alloc();
-    assert!(rt; sound(alloc, var(0))?);
-    assert!(rt; !sound(alloc, var(1))?);
-    assert!(rt; sound(alloc, let_in(alloc, 0, 1)?)?);
-    assert!(rt; !sound(alloc, let_in(alloc, 0, 2)?)?);
-    assert!(rt; !sound(alloc, let_in(alloc, 1, 0)?)?);
-    assert!(rt; sound(alloc, matching(alloc, 2)?)?);
-    assert!(rt; !sound(alloc, matching(alloc, 3)?)?);
-    assert!(rt; sound(alloc, call(alloc, 0, 0)?)?);
-    assert!(rt; !sound(alloc, call(alloc, 0, 1)?)?);
-    Ok(())
+fn text_of(alloc: Global, text: Text) -> Result<Comp, OutOfMemory> {
+    match text {
+        Text::Var(index) => Ok(var(index)),
+        Text::Let(bound, rest) => Ok(Comp::Let(
+            name(alloc)?,
+            part(alloc, bound)?,
+            part(alloc, rest)?,
+        )),
+        Text::Match(body) => matching(alloc, body),
+        Text::Call(function, index) => Ok(Comp::Call(function, args(alloc, index)?, AT)),
+        Text::Bind(effect, rest) => {
+            Ok(Comp::Bind(effect, name(alloc)?, part(alloc, 0)?, part(alloc, rest)?))
+        }
+        Text::Return(effect) => Ok(Comp::Return(effect, part(alloc, 0)?)),
+        Text::Lift(lift) => Ok(Comp::Lift(lift, part(alloc, 0)?)),
+        Text::GhostLet => Ok(Comp::GhostLet(name(alloc)?, part(alloc, 0)?, part(alloc, 0)?)),
+        Text::Assert => Ok(Comp::Assert(Term::Bool(true), AT, part(alloc, 0)?)),
+        Text::Application => Ok(Comp::Ret(Term::App(0, Sort::Bool, args(alloc, 0)?))),
+    }
 }
 
-#[test]
-fn numbers_are_in_range(rt: HostRuntime) -> Result<(), Fail> {
-    let alloc = rt.alloc();
-    // A function that is there, one that is gone, and none.
-    assert!(rt; sound(alloc, call(alloc, 0, 0)?)?);
-    assert!(rt; !sound(alloc, call(alloc, 1, 0)?)?);
-    assert!(rt; !sound(alloc, call(alloc, 2, 0)?)?);
-    assert!(rt; sound(alloc, bind(alloc, 0, 1)?)?);
-    assert!(rt; !sound(alloc, bind(alloc, 1, 1)?)?);
-    assert!(rt; sound(alloc, Comp::Return(0, Box::new(alloc, var(0))?))?);
-    assert!(rt; !sound(alloc, Comp::Return(1, Box::new(alloc, var(0))?))?);
-    assert!(rt; sound(alloc, Comp::Lift(0, Box::new(alloc, var(0))?))?);
-    assert!(rt; !sound(alloc, Comp::Lift(1, Box::new(alloc, var(0))?))?);
-    Ok(())
-}
-
-#[test]
-fn nothing_ghost_is_left(rt: HostRuntime) -> Result<(), Fail> {
-    let alloc = rt.alloc();
-    assert!(rt; !sound(alloc, ghost_let(alloc)?)?);
-    assert!(rt;
-        !sound(
-            alloc,
-            Comp::Assert(Term::Bool(true), AT, Box::new(alloc, var(0))?)
-        )?
-    );
-    assert!(rt; !sound(alloc, Comp::Ret(application(alloc, 0)?))?);
-    let hidden = fun(alloc, params(alloc, true, None)?, Effect::Pure, var(0))?;
-    assert!(rt; !code(alloc, hidden)?.sound());
-    let of_ghost = fun(alloc, params(alloc, false, None)?, Effect::Ghost, var(0))?;
-    assert!(rt; !code(alloc, of_ghost)?.sound());
-    Ok(())
-}
-
-/// Whether code is sound whose function has this refinement.
-fn sound_refined(alloc: Global, refine: Formula) -> Result<bool, OutOfMemory> {
-    let fun = fun(
-        alloc,
-        params(alloc, false, Some(refine))?,
-        Effect::User(0),
-        var(0),
-    )?;
+/// Whether code is sound whose function of one parameter has this body.
+fn is_sound(alloc: Global, body: Text) -> Result<bool, OutOfMemory> {
+    let params = params(alloc, false, Term::Bool(true))?;
+    let fun = fun(alloc, params, Effect::Pure, text_of(alloc, body)?)?;
     Ok(code(alloc, fun)?.sound())
 }
 
+#[test]
+fn texts(rt: HostRuntime) -> Result<(), Fail> {
+    let alloc = rt.alloc();
+    let rows = [
+        (Text::Var(0), true),
+        (Text::Var(1), false),
+        (Text::Let(0, 1), true),
+        (Text::Let(0, 2), false),
+        (Text::Let(1, 0), false),
+        (Text::Match(2), true),
+        (Text::Match(3), false),
+        (Text::Call(0, 0), true),
+        (Text::Call(0, 1), false),
+        // A function that is gone, and one that never was.
+        (Text::Call(1, 0), false),
+        (Text::Call(2, 0), false),
+        (Text::Bind(0, 1), true),
+        (Text::Bind(1, 1), false),
+        (Text::Return(0), true),
+        (Text::Return(1), false),
+        (Text::Lift(0), true),
+        (Text::Lift(1), false),
+        (Text::GhostLet, false),
+        (Text::Assert, false),
+        (Text::Application, false),
+    ];
+    for (body, wanted) in &rows {
+        assert_eq!(rt; is_sound(alloc, *body)?, *wanted, "{body:?}");
+    }
+    Ok(())
+}
+
+/// Whether code is sound whose function has this effect and this parameter; its refinement applies a function to a variable.
+fn is_sound_with(
+    alloc: Global,
+    effect: Effect,
+    hidden: bool,
+    function: u32,
+    variable: u32,
+) -> Result<bool, OutOfMemory> {
+    let refine = Term::App(function, Sort::Bool, args(alloc, variable)?);
+    let fun = fun(alloc, params(alloc, hidden, refine)?, effect, var(0))?;
+    Ok(code(alloc, fun)?.sound())
+}
+
+#[test]
+fn functions(rt: HostRuntime) -> Result<(), Fail> {
+    let alloc = rt.alloc();
+    let rows = [
+        (Effect::Pure, false, 0, 0, true),
+        (Effect::User(0), false, 1, 0, true),
+        (Effect::User(1), false, 0, 0, false),
+        (Effect::Ghost, false, 0, 0, false),
+        (Effect::Pure, true, 0, 0, false),
+        (Effect::Pure, false, 2, 0, false),
+        (Effect::Pure, false, 0, 1, false),
+    ];
+    for (effect, hidden, function, variable, wanted) in &rows {
+        let sound = is_sound_with(alloc, *effect, *hidden, *function, *variable)?;
+        assert_eq!(rt; sound, *wanted, "{effect:?} {hidden} {function} {variable}");
+    }
+    Ok(())
+}
+
 /// Whether code without functions is sound that has this lift.
-fn sound_lift(alloc: Global, to: u32, variable: u32) -> Result<bool, OutOfMemory> {
+fn is_sound_lift(alloc: Global, to: u32, variable: u32) -> Result<bool, OutOfMemory> {
+    let effects = effects(alloc)?;
     let lifts = lifts(alloc, to, variable)?;
+    let funs = Seq::new(alloc);
     Ok(Code {
-        effects: effects(alloc)?,
+        effects,
         lifts,
-        funs: Seq::new(alloc),
+        funs,
     }
     .sound())
 }
 
 #[test]
-fn headers_are_in_range(rt: HostRuntime) -> Result<(), Fail> {
+fn lifts_in_range(rt: HostRuntime) -> Result<(), Fail> {
     let alloc = rt.alloc();
-    assert!(rt; sound_refined(alloc, application(alloc, 1)?)?);
-    assert!(rt; !sound_refined(alloc, application(alloc, 2)?)?);
-    assert!(rt; !sound_refined(alloc, Term::Var(1))?);
-    assert!(rt; sound_lift(alloc, 0, 0)?);
-    assert!(rt; !sound_lift(alloc, 1, 0)?);
-    assert!(rt; !sound_lift(alloc, 0, 1)?);
-    let user = fun(alloc, params(alloc, false, None)?, Effect::User(1), var(0))?;
-    assert!(rt; !code(alloc, user)?.sound());
+    let rows = [(0, 0, true), (1, 0, false), (0, 1, false)];
+    for (to, variable, wanted) in &rows {
+        assert_eq!(rt;
+            is_sound_lift(alloc, *to, *variable)?,
+            *wanted,
+            "{to} {variable}"
+        );
+    }
     Ok(())
 }

@@ -1,4 +1,4 @@
-use Rattle.std.proofs.Common.{◌≡◌, ◌+◌, ◌∙◌, ℕ, Bool, ap, sym, length}
+use Rattle.std.proofs.Common.{◌+◌, ◌∙◌, ℕ, Bool, ap, sym, length}
 use Rattle.fst_program.specs.declared.comp.Arm.{Arm}
 use Rattle.fst_program.specs.declared.definition.DmTerm.{DmTerm}
 use Rattle.fst_program.specs.Plain.{plain_dm}

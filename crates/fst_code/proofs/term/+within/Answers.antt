@@ -1,4 +1,3 @@
-use Rattle.std.proofs.Common.{◌<◌, nat_lt, true, ◌≡◌}
 use Rattle.fst_code.proofs.ListLemmas.{prim-by, app-by, below}
 use Rattle.fst_code.proofs.term.+within.Goals as goal
 
