@@ -1,9 +1,12 @@
 -- Texts of the first programs: that a text is one is a fact; propositional terms are terms of such texts.
-use Rattle.std.proofs.Common.{◌≡◌, ℕ, List, Option, Some, None, subst}
+use Rattle.std.proofs.Common.{◌≡◌, ℕ, List, refl, Option, Some, None, subst}
 use mathlib.Core.Logic.{∥∥₁_elim}
 use Rattle.fst_base.specs.declared.op.Op.{Op}
 use Rattle.fst_base.specs.declared.op.Op.TheVariants as op
 use Rattle.fst_base.specs.Sorts.{Srt}
+use Rattle.fst_base.specs.Values.{Val}
+use Rattle.fst_program.specs.Erasure.{erased, erased_run}
+use Rattle.fst_machine.specs.Answering.{code_run}
 use Rattle.fst_terms.specs.Terms.{Tm, Tms, t_var, t_bool, t_unit, t_prim, t_if, t_end, t_more}
 use Rattle.fst_terms.specs.Propositional.{TmPropositional}
 use Rattle.fst_program.specs.Texts.{Cm, c_ret, c_let, c_if, Fn, Prog, if_there, fun_at}
@@ -54,3 +57,7 @@ propositional-first Ss t_unit S h = tt
 propositional-first Ss (t_prim op.Eq T (t_more t (t_more u t_end)) at) S h = (propositional-first Ss t h.2.0 h.2.1.1, propositional-first Ss u h.2.0 h.2.1.2)
 propositional-first Ss (t_if c t u) S h = (propositional-first Ss c _ h.1, propositional-first Ss t _ h.2, propositional-first Ss u _ h.3)
 propositional-first Ss t S h = absurd h
+
+-- the run of an erased program's function is that of the erased program as code
+pub erased_run-is : (P : Prog) (k fuel : ℕ) (vs : List Val) (s : Val) → erased_run P k fuel vs s ≡ code_run (erased P) k fuel vs s
+erased_run-is P k fuel vs s = refl
