@@ -1,0 +1,11 @@
+//! Code: programs that are erased, and whether they are sound.
+#![tactic(auto)]
+
+mod code;
+mod definition;
+mod term;
+#[cfg(test)]
+mod tests;
+mod text;
+
+pub use code::{Code, CodeFun};

@@ -1,0 +1,3 @@
+pub mod First
+pub mod Answering
+pub mod States
