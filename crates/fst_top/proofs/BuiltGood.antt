@@ -18,6 +18,7 @@ use Rattle.fst_program.specs.declared.goal.SiteKind.{SiteKind}
 use Rattle.fst_program.specs.declared.goal.Choice.TheVariants as choice
 use Rattle.fst_program.specs.Paths.{Gl, Way, count, suppose, suppose_all, choose, raised, all_raised, Side, sides, over, Rest, CallWalk, term_sites, walk, GoalsValid, refinements, given, own_vars, own_input, clause_terms, demands_of, start, input_vars, fun_walk, call_walk, goal_site, ensures_site, fun_goals}
 use Rattle.fst_terms.specs.Propositional.{TmPropositional}
+use Rattle.fst_top.proofs.RunLemmas.{Takes, takes-unit, takes-then}
 use Rattle.fst_top.specs.Built.{CmBuilt, ParamsBuilt, FnBuilt, sorts_of}
 use mathlib.Core.List.{reverse_aux}
 use Rattle.fst_program.proofs.SortedRunLemmas.{turned-have}
@@ -68,31 +69,6 @@ valid-right M [] hs h = h
 valid-right M (g ∷ gs) hs h = valid-right M gs hs h.1
 
 -- ---- runs
-
--- the run takes n units and gives r: with less it is out of fuel
-abbrev pub Takes : (n : ℕ) → Val → (run : (F : ℕ) → Outcome) → Type 0
-Takes n r run = (F : ℕ) → ((F < n) × (run F ≡ Out)) ⊎ ((left : ℕ) × ((F ≡ n + left) × (run F ≡ Done r left)))
-
--- after a unit
-takes-unit : (n : ℕ) (r : Val) (k : ℕ → Outcome) → Takes n r k → Takes (suc n) r (λ F. spend F k)
-takes-unit n r k h zero = inl (omega arith, refl)
-takes-unit n r k h (suc l) = go (h l)
-  where
-    go : ((l < n) × (k l ≡ Out)) ⊎ ((left : ℕ) × ((l ≡ n + left) × (k l ≡ Done r left))) → ((suc l < suc n) × (k l ≡ Out)) ⊎ ((left : ℕ) × ((suc l ≡ suc n + left) × (k l ≡ Done r left)))
-    go (inl p) = inl (omega (arith, p.0), p.1)
-    go (inr p) = inr (p.0, (omega (arith, p.1.0), p.1.1))
-
--- after a part
-takes-then : (n m : ℕ) (v r : Val) (run : ℕ → Outcome) (k : Val → ℕ → Outcome) → Takes n v run → Takes m r (k v) → Takes (n + m) r (λ F. then_do (run F) k)
-takes-then n m v r run k h q F = go (h F)
-  where
-    rest : (left : ℕ) → F ≡ n + left → run F ≡ Done v left → ((left < m) × (k v left ≡ Out)) ⊎ ((l : ℕ) × ((left ≡ m + l) × (k v left ≡ Done r l))) → ((F < n + m) × (then_do (run F) k ≡ Out)) ⊎ ((l : ℕ) × ((F ≡ n + m + l) × (then_do (run F) k ≡ Done r l)))
-    rest left e d (inl p) = inl (omega (arith, p.0, e), rw d p.1)
-    rest left e d (inr p) = inr (p.0, (omega (arith, p.1.0, e), rw d p.1.1))
-
-    go : ((F < n) × (run F ≡ Out)) ⊎ ((left : ℕ) × ((F ≡ n + left) × (run F ≡ Done v left))) → ((F < n + m) × (then_do (run F) k ≡ Out)) ⊎ ((l : ℕ) × ((F ≡ n + m + l) × (then_do (run F) k ≡ Done r l)))
-    go (inl p) = inl (omega (arith, p.0), rw (p.1) refl)
-    go (inr p) = rest p.0 p.1.0 p.1.1 (q p.0)
 
 -- the text's runs end with a result of Q, in some number of units, whatever its calls and ghost parts would give
 pub record Fine (M : Meaning) (P : Prog) (Q : Val → Type 0) (c : Cm) (e : Env) (input : Val) : Type 0 where

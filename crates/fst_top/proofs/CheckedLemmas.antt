@@ -9,7 +9,7 @@ use Rattle.fst_reader.specs.declared.decl.Decl.{Decl}
 use Rattle.fst_reader.specs.Program.{IsProgram}
 use Rattle.fst_reader.proofs.OneReadingLemmas.{one-reading}
 use Rattle.fst_top.specs.Printed.{yes_text, no_text, refusal_text}
-use Rattle.fst_top.specs.Answers.{program_in, Reads, IsYes, IsNo, IsNoOf, IsRefusal, IsUnbuilt, TooLong, longest, Checked}
+use Rattle.fst_top.specs.Answers.{program_in, Reads, IsYes, IsNo, IsNoOf, IsRefusal, IsUnbuilt, IsUnread, TooLong, longest, Checked}
 use Rattle.fst_top.proofs.DueLemmas.{some_meaning, first-no-goal, first-no-marks, no-not-yes}
 
 module _ (text : List ℕ) where
@@ -36,10 +36,10 @@ module _ (text : List ℕ) where
     reads-built : (printed : List ℕ) → IsUnbuilt text printed → ⊥
     reads-built printed u = let e : Some P ≡ None = sym reads.first ∙ ap (program_in text) (same-decls reads.decls u.decls reads.program u.program) ∙ u.other in cc (e)
 
-    not-refused : (printed : List ℕ) → TooLong text printed ⊎ IsRefusal text printed ⊎ IsUnbuilt text printed → ⊥
-    not-refused printed (inl l) = reads-not-long l.0
-    not-refused printed (inr (inl r)) = reads-not-refused printed r
-    not-refused printed (inr (inr u)) = reads-built printed u
+    pub not-unread : (printed : List ℕ) → IsUnread text printed → ⊥
+    not-unread printed (inl l) = reads-not-long l.0
+    not-unread printed (inr (inl r)) = reads-not-refused printed r
+    not-unread printed (inr (inr u)) = reads-built printed u
 
   module _ (p q : List ℕ) where
     yes-yes : IsYes text p → IsYes text q → p ≡ q
@@ -50,35 +50,35 @@ module _ (text : List ℕ) where
         (subst (GoalsValid some_meaning) (ap goals_of (reads-one h.P k.P h.reads k.reads) ∙ k.no.first.goals_are) (h.valid some_meaning))
         (k.no.first.fails some_meaning)
 
-    no-no-of : (P : Prog) → IsNoOf P (goals_of P) text p → IsNoOf P (goals_of P) text q → p ≡ q
-    no-no-of P h k =
+    pub no-of-one : (P : Prog) → IsNoOf P (goals_of P) text p → IsNoOf P (goals_of P) text q → p ≡ q
+    no-of-one P h k =
         h.text_is
         ∙ ap₂ (λ g ms. no_text P g ms text) (first-no-goal (goals_of P) h.goal k.goal h.marks k.marks h.first k.first) (first-no-marks (goals_of P) h.goal k.goal h.marks k.marks h.first k.first)
         ∙ sym k.text_is
 
     no-no : IsNo text p → IsNo text q → p ≡ q
-    no-no h k = no-no-of k.P (subst (λ P. IsNoOf P (goals_of P) text p) (reads-one h.P k.P h.reads k.reads) h.no) k.no
+    no-no h k = no-of-one k.P (subst (λ P. IsNoOf P (goals_of P) text p) (reads-one h.P k.P h.reads k.reads) h.no) k.no
 
-    refused-one : TooLong text p ⊎ IsRefusal text p ⊎ IsUnbuilt text p → TooLong text q ⊎ IsRefusal text q ⊎ IsUnbuilt text q → p ≡ q
-    refused-one (inl l) (inl m) = l.1 ∙ sym m.1
-    refused-one (inl l) (inr (inl r)) = absurd (not-long r.short l.0)
-    refused-one (inl l) (inr (inr u)) = absurd (not-long u.program.short l.0)
-    refused-one (inr (inl r)) (inl m) = absurd (not-long r.short m.0)
-    refused-one (inr (inl r)) (inr (inl s)) =
+    pub unread-one : IsUnread text p → IsUnread text q → p ≡ q
+    unread-one (inl l) (inl m) = l.1 ∙ sym m.1
+    unread-one (inl l) (inr (inl r)) = absurd (not-long r.short l.0)
+    unread-one (inl l) (inr (inr u)) = absurd (not-long u.program.short l.0)
+    unread-one (inr (inl r)) (inl m) = absurd (not-long r.short m.0)
+    unread-one (inr (inl r)) (inr (inl s)) =
         let e = (one-reading text).one_refusal r.broken s.broken r.at s.at r.refused s.refused in
         r.text_is ∙ ap₂ (λ x y. refusal_text x text y.at) e.0 e.1 ∙ sym s.text_is
-    refused-one (inr (inl r)) (inr (inr u)) = absurd ((one-reading text).not_both u.decls r.broken r.at u.program r.refused)
-    refused-one (inr (inr u)) (inl m) = absurd (not-long u.program.short m.0)
-    refused-one (inr (inr u)) (inr (inl s)) = absurd ((one-reading text).not_both u.decls s.broken s.at u.program s.refused)
-    refused-one (inr (inr u)) (inr (inr v)) = u.text_is ∙ sym v.text_is
+    unread-one (inr (inl r)) (inr (inr u)) = absurd ((one-reading text).not_both u.decls r.broken r.at u.program r.refused)
+    unread-one (inr (inr u)) (inl m) = absurd (not-long u.program.short m.0)
+    unread-one (inr (inr u)) (inr (inl s)) = absurd ((one-reading text).not_both u.decls s.broken s.at u.program s.refused)
+    unread-one (inr (inr u)) (inr (inr v)) = u.text_is ∙ sym v.text_is
 
   pub checked-one : (s t : ℕ) (p q : List ℕ) → Checked text s p → Checked text t q → (s ≡ t) × (p ≡ q)
   checked-one s t p q (inl h) (inl k) = (h.0 ∙ sym k.0, yes-yes p q h.1 k.1)
   checked-one s t p q (inl h) (inr (inl k)) = absurd (yes-no p q h.1 k.1)
-  checked-one s t p q (inl h) (inr (inr k)) = absurd (not-refused h.1.P h.1.reads q k.1)
+  checked-one s t p q (inl h) (inr (inr k)) = absurd (not-unread h.1.P h.1.reads q k.1)
   checked-one s t p q (inr (inl h)) (inl k) = absurd (yes-no q p k.1 h.1)
   checked-one s t p q (inr (inl h)) (inr (inl k)) = (h.0 ∙ sym k.0, no-no p q h.1 k.1)
-  checked-one s t p q (inr (inl h)) (inr (inr k)) = absurd (not-refused h.1.P h.1.reads q k.1)
-  checked-one s t p q (inr (inr h)) (inl k) = absurd (not-refused k.1.P k.1.reads p h.1)
-  checked-one s t p q (inr (inr h)) (inr (inl k)) = absurd (not-refused k.1.P k.1.reads p h.1)
-  checked-one s t p q (inr (inr h)) (inr (inr k)) = (h.0 ∙ sym k.0, refused-one p q h.1 k.1)
+  checked-one s t p q (inr (inl h)) (inr (inr k)) = absurd (not-unread h.1.P h.1.reads q k.1)
+  checked-one s t p q (inr (inr h)) (inl k) = absurd (not-unread k.1.P k.1.reads p h.1)
+  checked-one s t p q (inr (inr h)) (inr (inl k)) = absurd (not-unread k.1.P k.1.reads p h.1)
+  checked-one s t p q (inr (inr h)) (inr (inr k)) = (h.0 ∙ sym k.0, unread-one p q h.1 k.1)

@@ -21,3 +21,9 @@ pub mod InstantiateLemmas
 pub mod WayLemmas
 pub mod GoalLemmas
 pub mod PropositionalGoals
+pub mod RunLemmas
+pub mod ArgumentLemmas
+pub mod CodeLemmas
+pub mod FuelLemmas
+pub mod RanLemmas
+pub mod HeadlineLemmas

@@ -7,3 +7,5 @@ abbrev pub plain_command : Command → a.Command
 plain_command command.Help = a.help
 plain_command command.Version = a.version
 plain_command (command.Check file) = a.check file.now
+plain_command (command.Run file fuel words) = a.run file.now fuel words.now
+plain_command command.BadFuel = a.bad_fuel

@@ -6,7 +6,10 @@ pub mod Scopes
 pub mod Help
 pub mod Printed
 pub mod Statuses
+pub mod Arguments
 pub mod Answers
+pub mod Headline
+pub mod Code
 pub mod Answering
 pub mod Commands
 pub mod Outcomes

@@ -1,14 +1,14 @@
 -- What the steps of the top call give.
 use Rattle.std.specs.Prelude.{◌≡◌, ◌⊎◌, ◌<◌, ℕ, List, Option, Some, None, take}
 use Rattle.fst_outside.specs.Outside.{Rose, with_name, with_piece}
-use Rattle.fst_top.specs.Answers.{Command, check, IsTold, DueTo}
+use Rattle.fst_top.specs.Answers.{Command, file_of, IsTold, DueTo}
 use Rattle.fst_top.specs.Printed.{read_fault_text}
 use Rattle.fst_top.specs.declared.status.Status.{Status}
 use Rattle.fst_top.specs.declared.status.Status.TheVariants as status
 
 -- nothing was fetched, or the command's file once
 abbrev pub Fetched : Option Command → (old new : Option (List (List ℕ))) → Type 0
-Fetched c old new = (new ≡ old) ⊎ ((file : List ℕ) × ((c ≡ Some (check file)) × (new ≡ with_name old file)))
+Fetched c old new = (new ≡ old) ⊎ ((file : List ℕ) × ((file_of c ≡ Some file) × (new ≡ with_name old file)))
 
 -- a fetch failed and this is said
 abbrev pub SaysFault : Option Command → (failed : Type 0) → (status : ℕ) → (printed : List ℕ) → Type 0

@@ -4,6 +4,7 @@ use Rattle.std.specs.Fmt.{decimal}
 use Rattle.fst_base.specs.Place.{line, column}
 use Rattle.fst_base.specs.declared.rule.Rule.{Rule}
 use Rattle.fst_base.specs.declared.rule.Rule.TheVariants as rule
+use Rattle.fst_base.specs.Values.{Val}
 use Rattle.fst_terms.specs.Terms.{Tm, t_var}
 use Rattle.fst_terms.specs.Meaning.{Vr}
 use Rattle.fst_terms.specs.Same.{same_name}
@@ -19,6 +20,7 @@ use Rattle.fst_program.specs.Texts.{Prog, if_there, fun_at}
 use Rattle.fst_program.specs.Paths.{Gl, over, goals_of}
 use Rattle.fst_terms.specs.Flats.{Flt, flat_of}
 use Rattle.fst_top.specs.Elaboration.{is_blank}
+use Rattle.fst_values.specs.Texts.{text_of}
 
 -- ---- places and refusals
 
@@ -58,11 +60,23 @@ refusal_text r text at = codes "refused " ++ rule_text r ++ codes " at " ++ plac
 abbrev pub plain_refusal_text : Rule → List ℕ
 plain_refusal_text r = codes "refused " ++ rule_text r ++ codes "\n"
 
+-- word k of the arguments is bad
+abbrev pub bad_argument_text : (k : ℕ) → List ℕ
+bad_argument_text k = codes "refused " ++ rule_text rule.BadArgument ++ codes " " ++ decimal k ++ codes "\n"
+
 abbrev pub not_built_text : List ℕ
 not_built_text = codes "refused 0 NotBuilt\n"
 
 abbrev pub read_fault_text : List ℕ
 read_fault_text = codes "read fault\n"
+
+-- ---- the end of a run
+
+abbrev pub value_text : Val → List ℕ
+value_text v = text_of v ++ codes "\n"
+
+abbrev pub out_of_fuel_text : List ℕ
+out_of_fuel_text = codes "out of fuel\n"
 
 -- ---- a yes
 

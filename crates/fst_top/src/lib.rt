@@ -1,12 +1,17 @@
 //! The top call: from words, a shelf and a sink to a text and a status.
 #![tactic(auto)]
 
+mod arguments;
 mod branches;
 mod checking;
+mod coding;
 mod elaborate;
 mod goals;
+mod judging;
 mod laws;
 mod print;
+mod reading;
+mod running;
 mod status;
 #[cfg(test)]
 mod tests;

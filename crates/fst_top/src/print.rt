@@ -6,5 +6,5 @@ mod number;
 mod refusals;
 mod report;
 
-pub use refusals::{not_built, plain_refusal, read_fault, refusal};
-pub use report::{help, no, version, yes};
+pub use refusals::{bad_argument, not_built, plain_refusal, read_fault, refusal};
+pub use report::{help, no, out_of_fuel, value, version, yes};

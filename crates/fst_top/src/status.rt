@@ -1,6 +1,8 @@
 ghost use Rattle.std.specs.Prelude.{◌≡◌};
 ghost use Rattle.fst_top.specs.Statuses.{number_of};
 
+use fst_base::Seq;
+
 /// How a command ended.
 #[derive(Clone, Copy, Debug, PartialEq, Eq)]
 pub enum Status {
@@ -8,6 +10,7 @@ pub enum Status {
     NotProved,
     Refused,
     BadWords,
+    OutOfFuel,
     ReadFault,
     WriteFault,
     NoMemory,
@@ -23,9 +26,17 @@ impl Status {
             Status::NotProved => 1,
             Status::Refused => 2,
             Status::BadWords => 3,
+            Status::OutOfFuel => 4,
             Status::ReadFault => 7,
             Status::WriteFault => 8,
             Status::NoMemory => 10,
         }
     }
+}
+
+/// A status, and the text that goes with it.
+#[derive(Drop)]
+pub struct Answer {
+    pub status: Status,
+    pub text: Seq<u8>,
 }

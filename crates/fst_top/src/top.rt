@@ -6,15 +6,18 @@ ghost use Rattle.fst_terms.specs.Meaning.{Meaning};
 ghost use Rattle.fst_program.specs.Texts as p;
 ghost use Rattle.fst_program.specs.Good.{AllGood};
 ghost use Rattle.fst_base.specs.declared.rule.Rule.TheVariants as rule;
-ghost use Rattle.fst_top.specs.Answers.{Command, check, command_of, longest, IsTold, Due, DueTo, IsFault, Reads, OfTold};
+ghost use Rattle.fst_top.specs.Answers.{Command, check, run, command_of, longest, IsTold, Due, DueTo, IsFault, Reads, OfTold, Entry};
+ghost use Rattle.fst_base.specs.Values as v;
+ghost use Rattle.fst_top.specs.Headline.{Gives, RunsOut, RunsWell};
 ghost use Rattle.fst_top.specs.Help.{help_text, version_text};
 ghost use Rattle.fst_top.specs.Outcomes.{Fetched, Given, Delivered};
-ghost use Rattle.fst_top.specs.Printed.{plain_refusal_text, read_fault_text};
+ghost use Rattle.fst_top.specs.Printed.{plain_refusal_text, read_fault_text, value_text, out_of_fuel_text};
 ghost use Rattle.fst_top.specs.Statuses.{number_of};
 
-use crate::checking::{Answer, check};
+use crate::checking::check;
 use crate::print;
-use crate::status::Status;
+use crate::running::run;
+use crate::status::{Answer, Status};
 use crate::words::{Command, command_of};
 use fst_base::{Name, OutOfMemory, Rule, Seq};
 use fst_outside::{FetchFault, PutFault, Shelf, Sink};
@@ -33,6 +36,13 @@ pub fn fstar<S: Shelf, K: Sink>(alloc: Global, words: &Seq<Name>, shelf: &mut S,
         ⊎ ((result ≡ status) × (K.written sink.new ≡ with_piece (K.written sink.old) printed)) }
     ensures yes_is_good { result ≡ 0 → (file text : List ℕ) → command_of words.now ≡ Some (check file) → S.told shelf.old file ≡ Some text
         → (P : p.Prog) × (Reads text P × ((M : Meaning) → AllGood P M)) }
+    ensures main_runs_well { result ≡ 0 → (file text : List ℕ) → command_of words.now ≡ Some (check file) → S.told shelf.old file ≡ Some text
+        → (arguments : List (List ℕ)) (e : Entry text arguments) → RunsWell text arguments e }
+    ensures run_gives { result ≡ 0 → (file text : List ℕ) (fuel : ℕ) (arguments : List (List ℕ)) → command_of words.now ≡ Some (run file fuel arguments) → S.told shelf.old file ≡ Some text
+        → (value : v.Val) × (Gives text fuel arguments value × (K.written sink.new ≡ with_piece (K.written sink.old) (value_text value))) }
+    ensures run_is_out { result ≡ 4 → (file text : List ℕ) (fuel : ℕ) (arguments : List (List ℕ)) → command_of words.now ≡ Some (run file fuel arguments) → S.told shelf.old file ≡ Some text
+        → RunsOut text fuel arguments × (K.written sink.new ≡ with_piece (K.written sink.old) out_of_fuel_text) }
+    ensures never_stuck { (result ≡ 5 → ⊥) × (result ≡ 6 → ⊥) }
     ensures read_fault { result ≡ 7 → Rose (S.faults shelf.old) (S.faults shelf.new) × (K.written sink.new ≡ with_piece (K.written sink.old) read_fault_text) }
     ensures write_fault { result ≡ 8 → Rose (K.faults sink.old) (K.faults sink.new)
         × ((printed : List ℕ) × (n : ℕ) × (status : ℕ) × (Given (command_of words.now) (S.told shelf.old) (Rose (S.faults shelf.old) (S.faults shelf.new)) status printed × (K.written sink.new ≡ with_piece (K.written sink.old) (take n printed)))) }
@@ -68,6 +78,10 @@ fn answer<S: Shelf>(alloc: Global, words: &[Name], shelf: &mut S) -> Result<Answ
         Some(Command::Help) => help(alloc),
         Some(Command::Version) => version(alloc),
         Some(Command::Check(file)) => check_file(alloc, file, shelf),
+        Some(Command::Run(file, fuel, arguments)) => {
+            run_file(alloc, file, fuel, arguments, shelf)
+        }
+        Some(Command::BadFuel) => bad_fuel(alloc),
         None => bad_words(alloc),
     }
 }
@@ -79,6 +93,25 @@ fn check_file<S: Shelf>(alloc: Global, file: &str, shelf: &mut S) -> Result<Answ
 {
     match shelf.fetch(alloc, file, LONGEST) {
         Ok(bytes) => check(alloc, bytes.as_slice()),
+        Err(FetchFault::Failed) => read_fault(alloc),
+        Err(FetchFault::TooLong) => too_long(alloc),
+        Err(FetchFault::NoMemory) => Err(OutOfMemory),
+    }
+}
+
+/// The answer of `run` on a file of the shelf.
+fn run_file<S: Shelf>(
+    alloc: Global,
+    file: &str,
+    fuel: u64,
+    arguments: &[Name],
+    shelf: &mut S,
+) -> Result<Answer, OutOfMemory>
+    ensures given { IfOk result (λ a. Given (Some (run file.now fuel arguments.now)) (S.told shelf.old) (Rose (S.faults shelf.old) (S.faults shelf.new)) (number_of a.status) a.text) }
+    ensures fetched { Fetched (Some (run file.now fuel arguments.now)) (S.fetched shelf.old) (S.fetched shelf.new) }
+{
+    match shelf.fetch(alloc, file, LONGEST) {
+        Ok(bytes) => run(alloc, bytes.as_slice(), fuel, arguments),
         Err(FetchFault::Failed) => read_fault(alloc),
         Err(FetchFault::TooLong) => too_long(alloc),
         Err(FetchFault::NoMemory) => Err(OutOfMemory),
@@ -112,6 +145,17 @@ fn bad_words(alloc: Global) -> Result<Answer, OutOfMemory>
 {
     let mut text = Seq::new(alloc);
     print::plain_refusal(Rule::BadWords, &mut text)?;
+    Ok(Answer {
+        status: Status::BadWords,
+        text,
+    })
+}
+
+fn bad_fuel(alloc: Global) -> Result<Answer, OutOfMemory>
+    ensures { IfOk result (λ a. (a.status ≡ Status.BadWords) × (a.text ≡ plain_refusal_text rule.BadFuel)) }
+{
+    let mut text = Seq::new(alloc);
+    print::plain_refusal(Rule::BadFuel, &mut text)?;
     Ok(Answer {
         status: Status::BadWords,
         text,

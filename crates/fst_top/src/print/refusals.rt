@@ -1,7 +1,7 @@
 ghost use Rattle.std.specs.Prelude.{◌≡◌, ◌≤◌, ◌<◌, ◌+◌, ◌^◌, ◌++◌, length, OnOk};
-ghost use Rattle.fst_top.specs.Printed.{rule_text, refusal_text, plain_refusal_text, not_built_text, read_fault_text};
+ghost use Rattle.fst_top.specs.Printed.{rule_text, refusal_text, plain_refusal_text, bad_argument_text, not_built_text, read_fault_text};
 
-use crate::print::number::print_place;
+use crate::print::number::{print_number, print_place};
 use fst_base::{OutOfMemory, Pos, Rule, Seq};
 
 fn rule_text(rule: Rule) -> &'static [u8]
@@ -50,6 +50,18 @@ pub fn plain_refusal(rule: Rule, out: &mut Seq<u8>) -> Result<(), OutOfMemory>
 {
     out.extend_from_slice(b"refused ")?;
     out.extend_from_slice(rule_text(rule))?;
+    out.extend_from_slice(b"\n")
+}
+
+/// Appends that an argument word is bad, the first one being word 1.
+pub fn bad_argument(word: u128, out: &mut Seq<u8>) -> Result<(), OutOfMemory>
+    requires { word < 2 ^ 127 }
+    ensures { OnOk result (out.new ≡ out.old ++ bad_argument_text word) }
+{
+    out.extend_from_slice(b"refused ")?;
+    out.extend_from_slice(rule_text(Rule::BadArgument))?;
+    out.extend_from_slice(b" ")?;
+    print_number(word, out)?;
     out.extend_from_slice(b"\n")
 }
 

@@ -2,7 +2,7 @@ use Rattle.std.proofs.Common.{◌≡◌, ◌≤◌, ◌*◌, ◌^◌, length}
 use Rattle.fst_terms.specs.Meaning.{Meaning}
 use Rattle.fst_program.specs.Paths.{goals_from, GoalsValid}
 use Rattle.fst_program.specs.Plain.{plain_program}
-use Rattle.fst_top.proofs.checking.prove.Given as goal
+use Rattle.fst_top.proofs.judging.judge_program.Given as goal
 
 abbrev pub invariant-loop-fun : goal.invariant-loop-fun
 invariant-loop-fun l = record {

@@ -3,7 +3,7 @@ use Rattle.fst_program.specs.Paths.{plain_goal}
 use Rattle.fst_program.specs.Plain.{plain_program}
 use Rattle.fst_top.specs.Goals.{GoalsPropositional}
 use Rattle.fst_top.proofs.JoinLemmas.{Tells}
-use Rattle.fst_top.proofs.checking.judge_goals.Given as goal
+use Rattle.fst_top.proofs.judging.judge_goals.Given as goal
 
 abbrev pub invariant-goals : goal.invariant-goals
 invariant-goals l = record {

@@ -5,7 +5,7 @@ use Rattle.fst_program.specs.Plain.{plain_fun, plain_program}
 use Rattle.fst_top.specs.Answering.{IsJudged}
 use Rattle.fst_top.specs.Printed.{yes_text}
 use Rattle.fst_top.proofs.JoinLemmas.{goals-next, no-of-program, valid-next}
-use Rattle.fst_top.proofs.checking.prove.Goals as goal
+use Rattle.fst_top.proofs.judging.judge_program.Goals as goal
 
 pub returns-in-No : goal.returns-in-No
 returns-in-No c =

@@ -6,7 +6,7 @@ use Rattle.fst_top.specs.Answers.{IsNoOf}
 use Rattle.fst_top.specs.Answering.{IsJudgedGoal}
 use Rattle.fst_top.specs.Goals.{GoalsPropositional}
 use Rattle.fst_top.proofs.JoinLemmas.{Tells, no-here, none-valid, tells-more}
-use Rattle.fst_top.proofs.checking.judge_goals.Goals as goal
+use Rattle.fst_top.proofs.judging.judge_goals.Goals as goal
 
 pub returns-in-Some-2 : goal.returns-in-Some-2
 returns-in-Some-2 c =
