@@ -26,10 +26,6 @@ mod sorts;
 mod spelling;
 mod terminal;
 mod terms;
-#[cfg(test)]
-mod tests;
-#[cfg(test)]
-mod tree_tests;
 mod whole;
 mod word;
 

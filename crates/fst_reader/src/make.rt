@@ -102,11 +102,11 @@ pub fn nullary(alloc: Global, op: Op, at: Pos) -> Form<Word>
 pub fn unary(alloc: Global, op: Op, at: Pos, operand: Form<Word>) -> Result<Form<Word>, OutOfMemory>
     ensures { IfOk result (λ a. a ≡ t.unary op at operand) }
 {
-    let mut operands = Seq::new(alloc);
-    operands.push(operand)?;
+    let mut operands = Vec::with_capacity(alloc, 1)?;
+    operands.push_reserved(operand);
     Ok(Form {
         at,
-        node: FormNode::Prim(op, operands),
+        node: FormNode::Prim(op, Seq::from_vec(operands)),
     })
 }
 
@@ -119,12 +119,12 @@ pub fn binary(
 ) -> Result<Form<Word>, OutOfMemory>
     ensures { IfOk result (λ a. a ≡ t.binary op at left right) }
 {
-    let mut operands = Seq::new(alloc);
-    operands.push(left)?;
-    operands.push(right)?;
+    let mut operands = Vec::with_capacity(alloc, 2)?;
+    operands.push_reserved(left);
+    operands.push_reserved(right);
     Ok(Form {
         at,
-        node: FormNode::Prim(op, operands),
+        node: FormNode::Prim(op, Seq::from_vec(operands)),
     })
 }
 

@@ -1,28 +1,7 @@
-ghost use Rattle.std.specs.Prelude.{◌≡◌, ◌==◌, length, map, filter, if◌then◌else◌};
+ghost use Rattle.std.specs.Prelude.{◌≡◌, ◌≢◌, [], ◌∷◌, ◌==◌, length, map, filter, if◌then◌else◌};
 ghost use Rattle.fst_reader.specs.Spelling.{spelled, spelled_by};
 
 use crate::terminal::Terminal;
-
-static OF_1: [(&[u8], Terminal); 18] = [
-    (b"(", Terminal::LeftParen),
-    (b")", Terminal::RightParen),
-    (b"[", Terminal::LeftBracket),
-    (b"]", Terminal::RightBracket),
-    (b"{", Terminal::LeftBrace),
-    (b"}", Terminal::RightBrace),
-    (b",", Terminal::Comma),
-    (b";", Terminal::Semicolon),
-    (b":", Terminal::Colon),
-    (b"|", Terminal::Bar),
-    (b"=", Terminal::Equal),
-    (b"<", Terminal::Less),
-    (b">", Terminal::Greater),
-    (b"+", Terminal::Plus),
-    (b"-", Terminal::Minus),
-    (b"*", Terminal::Star),
-    (b"/", Terminal::Slash),
-    (b"%", Terminal::Percent),
-];
 
 static OF_2: [(&[u8], Terminal); 11] = [
     (b"to", Terminal::To),
@@ -96,13 +75,41 @@ static OF_8: [(&[u8], Terminal); 1] = [(b"requires", Terminal::Requires)];
 
 static OF_9: [(&[u8], Terminal); 1] = [(b"decreases", Terminal::Decreases)];
 
-/// The words and marks of this length.
+/// The terminal that the byte spells as a mark.
+#[tactic(auto, unfolding(crate::specs::Spelling::spelled))]
+fn of_byte(byte: u8) -> Terminal
+    ensures { result ≡ spelled_by spelled (byte ∷ []) }
+{
+    match byte {
+        b'(' => Terminal::LeftParen,
+        b')' => Terminal::RightParen,
+        b'[' => Terminal::LeftBracket,
+        b']' => Terminal::RightBracket,
+        b'{' => Terminal::LeftBrace,
+        b'}' => Terminal::RightBrace,
+        b',' => Terminal::Comma,
+        b';' => Terminal::Semicolon,
+        b':' => Terminal::Colon,
+        b'|' => Terminal::Bar,
+        b'=' => Terminal::Equal,
+        b'<' => Terminal::Less,
+        b'>' => Terminal::Greater,
+        b'+' => Terminal::Plus,
+        b'-' => Terminal::Minus,
+        b'*' => Terminal::Star,
+        b'/' => Terminal::Slash,
+        b'%' => Terminal::Percent,
+        _ => Terminal::Held,
+    }
+}
+
+/// The words and marks of this length, which is not 1.
 #[tactic(auto, unfolding(crate::specs::Spelling::spelled))]
 fn of_length(len: usize) -> &'static [(&'static [u8], Terminal)]
+    requires { len ≢ 1 }
     ensures { map (λ w. (w.0.now, w.1)) result.now ≡ filter (λ w. length w.0 == len) spelled }
 {
     match len {
-        1 => &OF_1,
         2 => &OF_2,
         3 => &OF_3,
         4 => &OF_4,
@@ -132,5 +139,8 @@ fn found(among: &[(&[u8], Terminal)], text: &[u8]) -> Terminal
 pub fn spelled_by(text: &[u8]) -> Terminal
     ensures { result ≡ spelled_by spelled text.now }
 {
-    found(of_length(text.len()), text)
+    match text {
+        [byte] => of_byte(*byte),
+        _ => found(of_length(text.len()), text),
+    }
 }

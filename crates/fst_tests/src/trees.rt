@@ -1,9 +1,5 @@
-use crate::body::{BodyTree, PartNode};
-use crate::decl::{Decl, RawProgram};
-use crate::form::{Form, FormNode};
-use crate::read;
-use crate::word::Word;
 use fst_base::Op;
+use fst_reader::{BodyTree, Decl, Form, FormNode, PartNode, RawProgram, Word, read};
 use std::alloc::{AllocError, Global};
 use std::test::Fail;
 

@@ -1,5 +1,5 @@
-use crate::read;
 use fst_base::{Fault, Rule};
+use fst_reader::read;
 use std::alloc::{AllocError, Global};
 use std::test::Fail;
 
