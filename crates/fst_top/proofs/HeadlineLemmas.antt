@@ -38,7 +38,6 @@ module _ (text : List ℕ) (words : List (List ℕ)) (e : Entry text words) wher
   module _ (valid : (M : Meaning) → GoalsValid M (goals_of e.main.P)) where
     good : (M : Meaning) → AllGood e.main.P M
     good = all-good e.main.P built valid
-
     -- main takes no input, and may be run bounded
     pure = (built.funs e.main.number e.main.fun e.main.there).pure
 
@@ -98,13 +97,18 @@ module _ (text : List ℕ) (fuel : ℕ) (words : List (List ℕ)) (printed : Lis
       go (inl p) = let wrong = subst (λ o. Ended o 0 printed) p.1 r.ended in let zero_four = wrong.0 in absurd (omega (arith, zero_four))
       go (inr p) =
           let e = p.1.0 in
-          let told = subst (λ o. Ended o 0 printed) p.1.1 r.ended in
-          ((ends text words r.entry).result, (record {
-            entry = r.entry;
-            good = good text words r.entry r.valid;
-            gives = λ M G. gives text words r.entry M fuel G (omega (arith, e));
-            meets = meets text words r.entry r.valid;
-          }, told.1))
+          let told = subst (λ o. Ended o 0 printed) p.1.1 r.ended in (
+            (ends text words r.entry).result,
+            (
+              record {
+                entry = r.entry;
+                good = good text words r.entry r.valid;
+                gives = λ M G. gives text words r.entry M fuel G (omega (arith, e));
+                meets = meets text words r.entry r.valid;
+              },
+              told.1,
+            ),
+          )
 
   run-is-out : IsRun text fuel words 4 printed → RunsOut text fuel words × (printed ≡ out_of_fuel_text)
   run-is-out r = go (at-fuel text words r.entry fuel)
@@ -113,12 +117,14 @@ module _ (text : List ℕ) (fuel : ℕ) (words : List (List ℕ)) (printed : Lis
           ⊎ ((left : ℕ) × ((fuel ≡ (ends text words r.entry).units + left) × (erased_run r.entry.main.P r.entry.main.number fuel r.entry.values v_unit ≡ Done (ends text words r.entry).result left)))
           → RunsOut text fuel words × (printed ≡ out_of_fuel_text)
       go (inl p) =
-          let told = subst (λ o. Ended o 4 printed) p.1 r.ended in
-          (record {
-            entry = r.entry;
-            good = good text words r.entry r.valid;
-            runs_out = λ M G. runs-out text words r.entry M fuel G p.0;
-          }, told.1)
+          let told = subst (λ o. Ended o 4 printed) p.1 r.ended in (
+            record {
+              entry = r.entry;
+              good = good text words r.entry r.valid;
+              runs_out = λ M G. runs-out text words r.entry M fuel G p.0;
+            },
+            told.1,
+          )
       go (inr p) = let wrong = subst (λ o. Ended o 4 printed) p.1.1 r.ended in let four_zero = wrong.0 in absurd (omega (arith, four_zero))
 
   -- a run that is answered 0 gives its value, and one that is answered 4 is out of fuel

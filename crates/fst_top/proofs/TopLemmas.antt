@@ -34,6 +34,17 @@ of-told-one (Some text) Q R f h k = f text h k
 
 -- ---- answers
 
+-- no status is that of a stuck run, or of one past 128 bits
+pub never-five-or-six : (s : Status) → (number_of s ≡ 5 → ⊥) × (number_of s ≡ 6 → ⊥)
+never-five-or-six status.Done = (λ e. omega (arith, e), λ e. omega (arith, e))
+never-five-or-six status.NotProved = (λ e. omega (arith, e), λ e. omega (arith, e))
+never-five-or-six status.Refused = (λ e. omega (arith, e), λ e. omega (arith, e))
+never-five-or-six status.BadWords = (λ e. omega (arith, e), λ e. omega (arith, e))
+never-five-or-six status.OutOfFuel = (λ e. omega (arith, e), λ e. omega (arith, e))
+never-five-or-six status.ReadFault = (λ e. omega (arith, e), λ e. omega (arith, e))
+never-five-or-six status.WriteFault = (λ e. omega (arith, e), λ e. omega (arith, e))
+never-five-or-six status.NoMemory = (λ e. omega (arith, e), λ e. omega (arith, e))
+
 -- one answer is due
 pub due-one : (c : Option Command) (told : List ℕ → Option (List ℕ)) (s t : ℕ) (p q : List ℕ) → DueTo c told s p → DueTo c told t q → (s ≡ t) × (p ≡ q)
 due-one None told s t p q h k = (h.0 ∙ sym k.0, h.1 ∙ sym k.1)

@@ -7,9 +7,6 @@ ghost use Rattle.fst_terms.specs.Propositional.{IsPropositional};
 ghost use Rattle.fst_terms.specs.Searching.{IsPropositionalFlat, Searched, is_closed, is_value};
 ghost use Rattle.fst_top.specs.Branches.{FirstOpen, Judged};
 
-#[cfg(test)]
-mod tests;
-
 use fst_base::{OutOfMemory, Seq};
 use fst_terms::{Branch, Flat, Mark, Sequent, prepare, read};
 use std::alloc::Global;

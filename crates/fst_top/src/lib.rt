@@ -13,8 +13,6 @@ mod print;
 mod reading;
 mod running;
 mod status;
-#[cfg(test)]
-mod tests;
 mod token_words;
 mod top;
 mod words;

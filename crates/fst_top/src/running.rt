@@ -24,8 +24,7 @@ use crate::reading::{Reading, read_program};
 use crate::status::{Answer, Status};
 use fst_base::{Name, OutOfMemory, Rule, Seq, Value};
 use fst_code::Code;
-use fst_machine::Answer as Run;
-use fst_machine::Machine;
+use fst_machine::{Answer as Run, Machine};
 use fst_program::{Fun, Program};
 use std::alloc::Global;
 

@@ -98,11 +98,7 @@ fn fuel_of(word: &str) -> Option<u64>
 fn within(fuel: u64) -> Option<u64>
     ensures { result ≡ if nat_le fuel most_fuel then Some fuel else None }
 {
-    if fuel <= MOST_FUEL {
-        Some(fuel)
-    } else {
-        None
-    }
+    if fuel <= MOST_FUEL { Some(fuel) } else { None }
 }
 
 fn are_digits(word: &[u8]) -> bool

@@ -1,4 +1,4 @@
-use Rattle.std.proofs.Common.{rules, ◌≡◌, ◌<◌, map, length, sym, subst, arith}
+use Rattle.std.proofs.Common.{map, sym, subst}
 use Rattle.std.proofs.lemmas.List.{length-map}
 use Rattle.fst_program.specs.Paths.{plain_goal}
 use Rattle.fst_program.specs.Plain.{plain_program}
@@ -8,8 +8,8 @@ use Rattle.fst_top.specs.Goals.{GoalsPropositional}
 use Rattle.fst_top.proofs.JoinLemmas.{Tells, no-here, none-valid, tells-more}
 use Rattle.fst_top.proofs.judging.judge_goals.Goals as goal
 
-pub returns-in-Some-2 : goal.returns-in-Some-2
-returns-in-Some-2 c =
+pub returns-in-Some-2-clause-judged : goal.returns-in-Some-2-clause-judged
+returns-in-Some-2-clause-judged c =
     let P = plain_program c.args.program.now in
     c.goals.invariant.tells.a_no c.in-Some-2.printed
     (subst (λ gs. IsNoOf P (map plain_goal gs) c.args.text.now c.in-Some-2.printed) (sym c.in-Some.ensures.cases.0)
@@ -26,5 +26,5 @@ goals-preserved c =
       propositional = (subst (λ gs. GoalsPropositional (map plain_goal gs)) c.in-Some.ensures.cases.0 c.goals.invariant.propositional).1;
     }
 
-pub returns : goal.returns
-returns c = (sym (length-map c.args.goals.now plain_goal), search rules, c.goals.invariant.tells.a_yes (none-valid c.goals.rest.now c.in_default.ensures.cases))
+pub returns-clause-judged : goal.returns-clause-judged
+returns-clause-judged c = (sym (length-map c.args.goals.now plain_goal), c.goals.invariant.tells.a_yes (none-valid c.goals.rest.now c.in_default.ensures.cases))

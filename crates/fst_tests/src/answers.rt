@@ -1,7 +1,8 @@
-use crate::fstar;
 use fst_base::{Name, OutOfMemory, Seq};
 use fst_outside::{Fail, File, MemoryShelf, MemorySink, Shelf, Sink};
+use fst_top::fstar;
 use std::alloc::Global;
+use std::process::Abort;
 use std::test::Fail as Failure;
 
 fn words_of(alloc: Global, words: &[&str]) -> Result<Seq<Name>, OutOfMemory> {
@@ -21,19 +22,37 @@ fn shelf_with(alloc: Global, text: &[u8], failing: &[u64]) -> Result<MemoryShelf
     Ok(MemoryShelf::new(alloc, files, Seq::from_slice(alloc, failing)?))
 }
 
-// The status of `check` on a text, and what the sink holds then.
-fn check(alloc: Global, text: &[u8]) -> Result<(u8, Seq<u8>), OutOfMemory> {
-    let words = words_of(alloc, &["check", "a.fst"])?;
+// The status of the words over a text, and what the sink holds then.
+fn answered(alloc: Global, words: &[&str], text: &[u8]) -> Result<(u8, Seq<u8>), OutOfMemory> {
+    let words = words_of(alloc, words)?;
     let mut shelf = shelf_with(alloc, text, &[])?;
     let mut sink = MemorySink::new(alloc, Seq::new(alloc));
     let status = fstar(alloc, &words, &mut shelf, &mut sink);
     Ok((status, Seq::from_slice(alloc, sink.written().as_slice())?))
 }
 
-type Row = (&'static [u8], u8, &'static [u8]);
+type TextRow = (&'static [u8], u8, &'static [u8]);
 
-// A text, the status and the printed text that are due.
-static ROWS: [Row; 36] = [
+fn texts(rt: &impl Abort, alloc: Global, words: &[&str], rows: &[TextRow]) -> Result<(), Failure> {
+    for (text, status, printed) in rows {
+        let (found, written) = answered(alloc, words, text)?;
+        assert_eq!(rt; written.as_slice(), *printed);
+        assert_eq!(rt; found, *status);
+    }
+    Ok(())
+}
+
+fn commands(rt: &impl Abort, alloc: Global, text: &[u8], rows: &[Row]) -> Result<(), Failure> {
+    for (words, status, printed) in rows {
+        let (found, written) = answered(alloc, words, text)?;
+        assert_eq!(rt; written.as_slice(), *printed);
+        assert_eq!(rt; found, *status);
+    }
+    Ok(())
+}
+
+// A text, the status of `check` and the printed text that are due.
+static CHECKS: [TextRow; 40] = [
     (b"", 0, b"checked: 0 functions, 0 goals\n"),
     (b"// nothing", 0, b"checked: 0 functions, 0 goals\n"),
     (
@@ -142,6 +161,27 @@ static ROWS: [Row; 36] = [
         1,
         b"not proved: ensures of h at 1:5\npath\nbranch\n",
     ),
+    // a branch that the hypothesis leaves, the first one in the order of marks
+    (
+        b"fun f (a : bool) (b : bool) : PURE bool requires (if a then b else b) ensures (if a then b else b) { a }",
+        0,
+        b"checked: 1 functions, 1 goals\n",
+    ),
+    (
+        b"fun f (a : bool) (b : bool) : PURE bool requires (if a then b else a) ensures (if b then a else b) { a }",
+        0,
+        b"checked: 1 functions, 1 goals\n",
+    ),
+    (
+        b"fun f (a : bool) (b : bool) : PURE bool requires (if a then a else b) ensures (if a then b else a) { a }",
+        1,
+        b"not proved: ensures of f at 1:5\npath\nbranch\n  a is true\n  b is false\n",
+    ),
+    (
+        b"fun f (a : bool) (b : bool) : PURE bool requires (if a then b else b) ensures (if b then a else b) { a }",
+        1,
+        b"not proved: ensures of f at 1:5\npath\nbranch\n  a is false\n  b is true\n",
+    ),
     // not one of the first programs
     (
         b"fun f (x : bool) : PURE bool unfold 1 { x }",
@@ -200,14 +240,154 @@ static ROWS: [Row; 36] = [
     ),
 ];
 
+type Row = (&'static [&'static str], u8, &'static [u8]);
+
+static SAME: &[u8] =
+    b"fun main (b : bool) : PURE bool ensures result = b { if b then true else false }";
+
+// Words, the status and the printed text that are due where `a.fst` holds the text above.
+static ON_SAME: [Row; 22] = [
+    (&["run", "a.fst", "2", "true"], 0, b"true\n"),
+    (&["run", "a.fst", "2", " false "], 0, b"false\n"),
+    (
+        &["run", "a.fst", "2", "false // no"],
+        3,
+        b"refused 17 BadArgument 1\n",
+    ),
+    (&["run", "a.fst", "1", "true"], 4, b"out of fuel\n"),
+    (&["run", "a.fst", "0", "true"], 4, b"out of fuel\n"),
+    (&["run", "a.fst", "10000000", "true"], 0, b"true\n"),
+    (
+        &["run", "a.fst", "00000000000000000000000002", "true"],
+        0,
+        b"true\n",
+    ),
+    (
+        &["run", "a.fst", "2", "maybe"],
+        3,
+        b"refused 17 BadArgument 1\n",
+    ),
+    (&["run", "a.fst", "2"], 3, b"refused 17 BadArgument 1\n"),
+    (
+        &["run", "a.fst", "2", "true", "true"],
+        3,
+        b"refused 17 BadArgument 2\n",
+    ),
+    // no fuel, even where the file isn't there
+    (&["run", "a.fst", "x", "true"], 3, b"refused 18 BadFuel\n"),
+    (&["run", "b.fst", "", "true"], 3, b"refused 18 BadFuel\n"),
+    (&["run", "b.fst", "+2", "true"], 3, b"refused 18 BadFuel\n"),
+    (&["run", "b.fst", "-2", "true"], 3, b"refused 18 BadFuel\n"),
+    (&["run", "b.fst", "10000001"], 3, b"refused 18 BadFuel\n"),
+    (
+        &["run", "b.fst", "99999999999999999999999"],
+        3,
+        b"refused 18 BadFuel\n",
+    ),
+    (&["run", "b.fst", "2", "true"], 7, b"read fault\n"),
+    // words that fit no command
+    (&["run", "a.fst"], 3, b"refused 20 BadWords\n"),
+    (&["check", "a.fst", "2"], 3, b"refused 20 BadWords\n"),
+    (&["frob"], 3, b"refused 20 BadWords\n"),
+    (&[], 3, b"refused 20 BadWords\n"),
+    (
+        &["--version"],
+        0,
+        b"fstar 0.1.0, proved with rattle-kit-13f logic dac8208d650f15bf\n",
+    ),
+];
+
+static FLIP: &[u8] = b"fun main (b : bool) : PURE bool ensures result = b { not b }";
+
+// Nothing runs before the proof, and the arguments are looked at before it.
+static ON_FLIP: [Row; 3] = [
+    (
+        &["run", "a.fst", "1", "true"],
+        1,
+        b"not proved: ensures of main at 1:5\npath\nbranch\n  b is true\n",
+    ),
+    (
+        &["run", "a.fst", "0", "false"],
+        1,
+        b"not proved: ensures of main at 1:5\npath\nbranch\n  b is true\n",
+    ),
+    (
+        &["run", "a.fst", "1", "()"],
+        3,
+        b"refused 17 BadArgument 1\n",
+    ),
+];
+
+static NEEDS: &[u8] =
+    b"fun main (b : bool) : PURE bool requires b ensures result { let c = b in c }";
+
+// Arguments that miss requires are run all the same.
+static ON_NEEDS: [Row; 2] = [
+    (&["run", "a.fst", "3", "false"], 0, b"false\n"),
+    (&["run", "a.fst", "2", "true"], 4, b"out of fuel\n"),
+];
+
+static TWO: &[u8] = b"fun f : PURE unit { () }
+fun main (a : bool) (u : unit) : PURE bool ensures result = not a { if a then let b = not a in b else true }";
+
+// Arguments in their order, and the cost of each side.
+static ON_TWO: [Row; 5] = [
+    (&["run", "a.fst", "2", "false", "()"], 0, b"true\n"),
+    (&["run", "a.fst", "3", "true", "( )"], 4, b"out of fuel\n"),
+    (&["run", "a.fst", "4", "true", "()"], 0, b"false\n"),
+    (
+        &["run", "a.fst", "4", "()", "true"],
+        3,
+        b"refused 17 BadArgument 1\n",
+    ),
+    (
+        &["run", "a.fst", "4", "true", "true"],
+        3,
+        b"refused 17 BadArgument 2\n",
+    ),
+];
+
+// Texts, the status of `run a.fst 1` and the printed text that are due.
+static RUNS: [TextRow; 4] = [
+    (b"fun", 2, b"refused 1 Syntax at 1:4\n"),
+    (b"fun main : PURE int { 1 }", 2, b"refused 0 NotBuilt\n"),
+    (b"", 3, b"refused 16 NoMain\n"),
+    (
+        b"fun f : PURE bool ensures result { false }",
+        3,
+        b"refused 16 NoMain\n",
+    ),
+];
+
+static HELP: &[u8] =
+    b"fstar: a checker and runner for a first-order core of F* with user-defined effects
+
+fstar check FILE                proves the functions of the file
+fstar run FILE FUEL ARGUMENTS   proves them, then runs main with so many units of fuel
+fstar --help                    prints this text
+fstar --version                 prints the version
+
+exit statuses: 0 done, 1 not proved, 2 the file is refused, 3 the words are refused,
+4 out of fuel, 7 the file can't be read, 8 the text can't be written, 10 no memory
+
+example: fstar check examples/same.fst
+";
+
 #[test]
-fn answers(rt: HostRuntime) -> Result<(), Failure> {
-    for (text, status, printed) in &ROWS {
-        let (found, written) = check(rt.alloc(), text)?;
-        assert_eq!(rt; written.as_slice(), *printed);
-        assert_eq!(rt; found, *status);
-    }
-    Ok(())
+fn checks(rt: HostRuntime) -> Result<(), Failure> {
+    let alloc = rt.alloc();
+    texts(&rt, alloc, &["check", "a.fst"], &CHECKS)
+}
+
+#[test]
+fn runs(rt: HostRuntime) -> Result<(), Failure> {
+    let alloc = rt.alloc();
+    texts(&rt, alloc, &["run", "a.fst", "1"], &RUNS)?;
+    commands(&rt, alloc, SAME, &ON_SAME)?;
+    commands(&rt, alloc, FLIP, &ON_FLIP)?;
+    commands(&rt, alloc, NEEDS, &ON_NEEDS)?;
+    commands(&rt, alloc, TWO, &ON_TWO)?;
+    commands(&rt, alloc, b"", &[(&["--help"], 0, HELP)])
 }
 
 #[test]
@@ -240,14 +420,14 @@ fn long_files(rt: HostRuntime) -> Result<(), Failure> {
     for _ in 0..1 << 20 {
         spaces.push(b' ')?;
     }
-    let (status, written) = check(alloc, spaces.as_slice())?;
+    let (status, written) = answered(alloc, &["check", "a.fst"], spaces.as_slice())?;
     assert_eq!(rt; status, 0);
     assert_eq!(rt;
         written.as_slice(),
         b"checked: 0 functions, 0 goals\n".as_slice()
     );
     spaces.push(b' ')?;
-    let (status, written) = check(alloc, spaces.as_slice())?;
+    let (status, written) = answered(alloc, &["check", "a.fst"], spaces.as_slice())?;
     assert_eq!(rt; status, 2);
     assert_eq!(rt; written.as_slice(), b"refused 2 TooLong\n".as_slice());
     Ok(())
