@@ -2,6 +2,7 @@
 use Rattle.std.proofs.Common.{◌≡◌, ◌⊎◌, inl, inr, ℕ, ◌+◌, ◌<◌, ◌≤◌, true, List, reverse, refl, sym, ap, ◌∙◌, subst, arith}
 use Rattle.fst_base.specs.Values.{Val, v_unit}
 use Rattle.fst_terms.specs.Meaning.{Meaning}
+use Rattle.fst_program.specs.declared.effect.Effect.TheVariants as effect
 use Rattle.fst_program.specs.Erasure.{erased_run}
 use Rattle.fst_program.specs.Good.{AllGood, GoodAt, HasInput, MayBeBounded, IsFine, Pre, Post}
 use Rattle.fst_program.specs.Paths.{goals_of, GoalsValid}
@@ -38,7 +39,9 @@ module _ (text : List ℕ) (words : List (List ℕ)) (e : Entry text words) wher
   module _ (valid : (M : Meaning) → GoalsValid M (goals_of e.main.P)) where
     good : (M : Meaning) → AllGood e.main.P M
     good = all-good e.main.P built valid
+
     -- main takes no input, and may be run bounded
+    pure : e.main.fun.effect ≡ effect.Pure
     pure = (built.funs e.main.number e.main.fun e.main.there).pure
 
     good-at : (M : Meaning) → Pre M e.main.fun e.values v_unit → GoodAt e.main.P M e.main.fun e.values v_unit true

@@ -27,3 +27,4 @@ pub mod CodeLemmas
 pub mod FuelLemmas
 pub mod RanLemmas
 pub mod HeadlineLemmas
+pub mod RunningLemmas
