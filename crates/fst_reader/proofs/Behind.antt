@@ -1,5 +1,5 @@
 -- What reading gives of a part that begins with a name or with an operand.
-use Rattle.std.proofs.Common.{◌≡◌, Bool, true, false, if◌then◌else◌, List, [], ◌∷◌, Option, refl, ◌∙◌, ap, Ok, Err}
+use Rattle.std.proofs.Common.{◌≡◌, false, if◌then◌else◌, List, [], ◌∷◌, Option, refl, ◌∙◌, ap, Ok, Err}
 use Rattle.fst_base.specs.declared.place.Pos.{Pos}
 use Rattle.fst_grammar.specs.Grammar.{call}
 use Rattle.fst_grammar.specs.Reading.{◌>>=◌}
@@ -16,7 +16,7 @@ use Rattle.fst_reader.specs.Trees.{Tree}
 use Rattle.fst_reader.specs.Productions as n
 use Rattle.fst_reader.specs.Reading.{reads, run, takes, given}
 use Rattle.fst_reader.proofs.Opens.{opens}
-use Rattle.fst_reader.proofs.Enclosed.{O, comes, given_if, given_act, if_both, same_tree}
+use Rattle.fst_reader.proofs.Enclosed.{O, comes, given_if, given_act, if_both}
 
 link : {B C : Type 0} (b : B) (o : O (B → C)) → ◌≡◌ {A = O C} (◌>>=◌ {A = B × (B → C)} {B = C} (o >>= (λ g ks. Ok ((b, g), ks))) (λ p ks. Ok (p.1 p.0, ks))) (given b o)
 link b (Ok p) = refl

@@ -6,7 +6,6 @@ use Rattle.fst_reader.specs.declared.reader.Stop.TheVariants.{Syntax, NoMemory}
 use Rattle.fst_reader.specs.Tokens.{Token, alphabet}
 use Rattle.fst_reader.specs.Trees.{Tree}
 use Rattle.fst_grammar.specs.Alphabet.{has, next}
-use Rattle.fst_reader.specs.declared.terminal.Terminal.{Terminal}
 use Rattle.fst_reader.specs.declared.terminal.Terminal.TheVariants as k
 use Rattle.fst_reader.specs.Tables.{firsts}
 use Rattle.fst_reader.specs.Trees as t

@@ -1,5 +1,5 @@
 -- What reading gives where a tree waits for a place or for what was read before.
-use Rattle.std.proofs.Common.{◌≡◌, Bool, true, false, ◌||◌, if◌then◌else◌, List, [], ◌∷◌, ◌++◌, append-nil, append_assoc, refl, sym, subst, ◌∙◌, ap, Ok, Err}
+use Rattle.std.proofs.Common.{◌≡◌, Bool, true, false, if◌then◌else◌, List, [], ◌∷◌, ◌++◌, append-nil, append_assoc, refl, sym, subst, ◌∙◌, ap, Ok, Err}
 use Rattle.fst_base.specs.declared.place.Pos.{Pos}
 use Rattle.fst_base.specs.declared.op.Op.TheVariants as op
 use Rattle.fst_grammar.specs.Alphabet.{has, next}
@@ -10,13 +10,11 @@ use Rattle.fst_reader.specs.declared.operator.Separator.{Separator}
 use Rattle.fst_reader.specs.declared.operator.Separator.TheVariants.{Comma, Semicolon}
 use Rattle.fst_reader.specs.declared.terminal.Terminal.{Terminal}
 use Rattle.fst_reader.specs.declared.terminal.Terminal.TheVariants as k
-use Rattle.fst_reader.specs.declared.word.Word.{Word}
 use Rattle.fst_reader.specs.Separators.{separator}
 use Rattle.fst_reader.specs.Tokens.{Token, alphabet}
 use Rattle.fst_reader.specs.Trees as t
 use Rattle.fst_reader.specs.Trees.{Tree}
 use Rattle.fst_reader.specs.Productions as n
-use Rattle.fst_reader.specs.Tables.{firsts}
 use Rattle.fst_reader.specs.Reading.{Reads, reads, takes, given, placed, closed, behind}
 use Rattle.fst_reader.proofs.Opens.{opens}
 

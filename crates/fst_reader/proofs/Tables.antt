@@ -1,5 +1,5 @@
 -- The tables are right for the productions.
-use Rattle.std.proofs.Common.{◌≡◌, ◌<◌, ℕ, zero, suc, true, false, refl, arith}
+use Rattle.std.proofs.Common.{◌≡◌, ◌<◌, zero, suc, true, false, refl, arith}
 use Rattle.fst_reader.specs.declared.operator.Separator.TheVariants as s
 use Rattle.fst_reader.specs.Productions.{N, T, rule, program, decl, effect, signature, returning, joining, base, two_names, three_names, lift, fun, head, computation, contract, needs, gives, measures, depth, measures_more, terms_more, effname, params, param, hidden, refinement, sort, sort_more, sat, body, ghost_let, plain_let, assertion, branching, matching, block, binding, annotation, part, block_part, reify, reflect, named_part, after_name, operation, rest, arms, arms_more, arm, dm, dm_let, dm_branching, dm_matching, dm_block, dm_binding, dmpart, dm_named_part, dm_after_name, run_args, second, dm_arms, dm_arms_more, dm_arm, pattern, term, implies_more, disj, disj_more, conj, conj_more, cmp, cmp_more, con, con_more, sum, sum_more, prod, prod_more, un, other, negated, app, solid, prefix, named, application, plain, atom, inner, enclosed, choice, inner_more, args, items, let_in, comparison, sum_operator, prod_operator, prefix_operator, name, binder, number, small}
 use Rattle.fst_reader.specs.Tables.{firsts, nullable, follow, rank, top}

@@ -3,7 +3,7 @@
 -- A family with a Bool is that of terms at false and of formulas at true. `{x}` and the tails of chains are nonterminals
 -- of their own, named `.._more`: the tree of a list's is the list, the tree of a chain's puts what was read before
 -- together with what follows.
-use Rattle.std.specs.Prelude.{ℕ, zero, suc, min, Bool, true, false, List, [], ◌∷◌, Option, Some, None, unwrap_or}
+use Rattle.std.specs.Prelude.{ℕ, zero, suc, min, Bool, true, false, List, [], ◌∷◌, Option, Some, None}
 use Rattle.fst_base.specs.declared.op.Op.TheVariants as op
 use Rattle.fst_base.specs.declared.place.Pos.{Pos}
 use Rattle.fst_reader.specs.declared.terminal.Terminal.{Terminal}

@@ -1,5 +1,5 @@
 -- Tokens as the grammar sees them.
-use Rattle.std.specs.Prelude.{ℕ, Bool, List, [], ◌∷◌}
+use Rattle.std.specs.Prelude.{ℕ, List}
 use denote.Enum.Bare.{sameb}
 use Rattle.fst_reader.specs.contracts.terminal.Terminal.{the_type}
 use Rattle.fst_reader.specs.declared.terminal.Terminal.{Terminal}

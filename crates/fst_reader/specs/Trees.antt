@@ -1,6 +1,6 @@
 -- The trees that the productions give. What is written in short is written out, at the place of its operator, its word or
 -- its bracket.
-use Rattle.std.specs.Prelude.{ℕ, ◌*◌, ◌+◌, ◌-◌, ◌^◌, min, Bool, true, false, List, [], ◌∷◌, fold, Option, Some, None, codes, ℤ, pos, neg_ℤ}
+use Rattle.std.specs.Prelude.{ℕ, ◌*◌, ◌+◌, ◌-◌, ◌^◌, min, Bool, true, false, List, [], ◌∷◌, fold, Option, Some, None, codes, pos, neg_ℤ}
 use Rattle.fst_base.specs.declared.op.Op.{Op}
 use Rattle.fst_base.specs.declared.op.Op.TheVariants as op
 use Rattle.fst_base.specs.declared.place.Pos.{Pos}
@@ -10,7 +10,6 @@ use Rattle.fst_reader.specs.declared.form.FormNode.{FormNode}
 use Rattle.fst_reader.specs.declared.form.FormNode.TheVariants as f
 use Rattle.fst_reader.specs.declared.operator.Operator.{Operator}
 use Rattle.fst_reader.specs.declared.operator.Comparison.{Comparison}
-use Rattle.fst_reader.specs.declared.operator.Relation.{Relation}
 use Rattle.fst_reader.specs.declared.operator.Relation.TheVariants as r
 
 -- the number that decimal digits are

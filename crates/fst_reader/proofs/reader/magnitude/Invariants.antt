@@ -1,4 +1,4 @@
-use Rattle.std.proofs.Common.{◌≡◌, ◌≤◌, ◌^◌, ◌+◌, take, length}
+use Rattle.std.proofs.Common.{◌≡◌, ◌≤◌, ◌^◌, ◌+◌, take}
 use Rattle.fst_reader.specs.Trees.{magnitude}
 use Rattle.fst_reader.proofs.reader.magnitude.Given as goal
 

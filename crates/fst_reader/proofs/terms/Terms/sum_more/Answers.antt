@@ -1,7 +1,6 @@
-use Rattle.std.proofs.Common.{◌≡◌, true, false, [], ◌∷◌, sym, subst, ◌∙◌, rules, arith, Err}
+use Rattle.std.proofs.Common.{◌≡◌, true, false, sym, subst, ◌∙◌, rules, arith, Err}
 use Rattle.std.proofs.lemmas.Grind.{common_steps}
 use Rattle.fst_grammar.specs.Alphabet.{has, next}
-use Rattle.fst_reader.specs.declared.terminal.Terminal.TheVariants as k
 use Rattle.fst_reader.specs.Tables.{firsts}
 use Rattle.fst_reader.specs.Tokens.{alphabet}
 use Rattle.fst_reader.specs.Trees.{Tree}
