@@ -5,9 +5,8 @@ use Rattle.fst_top.proofs.ProgramBuilt.{program-built}
 use Rattle.fst_top.proofs.reading.elaborate.Goals as goal
 
 pub returns-in-Ok : goal.returns-in-Ok
-returns-in-Ok c =
-    (
-      record { decls = c.args.decls.now; program = c.requires.program; first = search rules },
-      program-built c.as_slice.result.now (plain_program c.in-Ok.program) c.in-Ok.ensures,
-      few-funs c.as_slice.result.now c.in-Ok.program c.in-Ok.ensures,
-    )
+returns-in-Ok c = (
+  record { decls = c.args.decls.now; program = c.requires.program; first = search rules },
+  program-built c.as_slice.result.now (plain_program c.in-Ok.program) c.in-Ok.ensures,
+  few-funs c.as_slice.result.now c.in-Ok.program c.in-Ok.ensures,
+)
