@@ -7,6 +7,7 @@ ghost use Rattle.fst_program.specs.Texts as p;
 ghost use Rattle.fst_program.specs.Good.{AllGood};
 ghost use Rattle.fst_base.specs.declared.rule.Rule.TheVariants as rule;
 ghost use Rattle.fst_top.specs.Answers.{Command, check, run, command_of, longest, IsTold, Due, DueTo, IsFault, Reads, OfTold, Entry};
+ghost use Rattle.fst_top.specs.Answers as a;
 ghost use Rattle.fst_base.specs.Values as v;
 ghost use Rattle.fst_top.specs.Headline.{Gives, RunsOut, RunsWell};
 ghost use Rattle.fst_top.specs.Help.{help_text, version_text};
@@ -34,6 +35,8 @@ pub fn fstar<S: Shelf, K: Sink>(alloc: Global, words: &Seq<Name>, shelf: &mut S,
         ⊎ ((printed : List ℕ) × (Due words.now (S.told shelf.old) result printed × (K.written sink.new ≡ with_piece (K.written sink.old) printed))) }
     ensures only { (status : ℕ) (printed : List ℕ) → Due words.now (S.told shelf.old) status printed → IsFault result
         ⊎ ((result ≡ status) × (K.written sink.new ≡ with_piece (K.written sink.old) printed)) }
+    ensures help { command_of words.now ≡ Some a.help → IsFault result ⊎ ((result ≡ 0) × (K.written sink.new ≡ with_piece (K.written sink.old) help_text)) }
+    ensures version { command_of words.now ≡ Some a.version → IsFault result ⊎ ((result ≡ 0) × (K.written sink.new ≡ with_piece (K.written sink.old) version_text)) }
     ensures yes_is_good { result ≡ 0 → (file text : List ℕ) → command_of words.now ≡ Some (check file) → S.told shelf.old file ≡ Some text
         → (P : p.Prog) × (Reads text P × ((M : Meaning) → AllGood P M)) }
     ensures main_runs_well { result ≡ 0 → (file text : List ℕ) → command_of words.now ≡ Some (check file) → S.told shelf.old file ≡ Some text

@@ -1,6 +1,7 @@
-use Rattle.std.proofs.Common.{◌≡◌, ◌⊎◌, inl, inr, refl, subst, arith}
+use Rattle.std.proofs.Common.{◌≡◌, ◌⊎◌, inl, inr, refl, sym, subst, arith}
 use Rattle.fst_outside.specs.Outside.{Rose}
-use Rattle.fst_top.specs.Answers.{command_of}
+use Rattle.fst_top.specs.Answers.{command_of, DueTo}
+use Rattle.fst_top.specs.Help.{help_text, version_text}
 use Rattle.fst_top.specs.Outcomes.{Given}
 use Rattle.fst_top.specs.Statuses.{number_of}
 use Rattle.fst_top.proofs.HeadlineLemmas.{runs-well}
@@ -59,3 +60,9 @@ returns-clause-run_is_out g c = elim c.match-answer.branch [
 
 pub returns-clause-never_stuck : goal.returns-clause-never_stuck
 returns-clause-never_stuck g c = rw c.number.ensures (never-five-or-six _)
+
+pub returns-clause-help : goal.returns-clause-help
+returns-clause-help g c = λ e. returns-clause-only g c 0 help_text (subst (λ x. DueTo x (g.S.Shelf.told c.args.shelf.now) 0 help_text) (sym e) (refl, refl))
+
+pub returns-clause-version : goal.returns-clause-version
+returns-clause-version g c = λ e. returns-clause-only g c 0 version_text (subst (λ x. DueTo x (g.S.Shelf.told c.args.shelf.now) 0 version_text) (sym e) (refl, refl))
