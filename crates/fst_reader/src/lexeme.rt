@@ -36,10 +36,9 @@ fn terminal_of(kind: Kind, text: &str) -> Terminal
             }
         }
         Kind::Ident => {
-            if text == "_" {
-                Terminal::Hole
-            } else {
-                Terminal::Name
+            match text.as_bytes() {
+                [b'_'] => Terminal::Hole,
+                _ => Terminal::Name,
             }
         }
     }

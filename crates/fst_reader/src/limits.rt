@@ -1,6 +1,6 @@
 //! The limits on what is read: open brackets, tokens of a declaration, and the size of literals.
 
-ghost use Rattle.std.specs.Prelude.{◌≡◌, ◌≤◌, ◌<◌, false, length, map, IfSome, IfNone};
+ghost use Rattle.std.specs.Prelude.{◌≡◌, ◌≤◌, ◌<◌, ◌||◌, nat_lt, false, length, map, IfSome, IfNone};
 ghost use Rattle.fst_reader.specs.Limits as l;
 ghost use Rattle.fst_reader.specs.Tokens.{token_of};
 
@@ -115,28 +115,25 @@ impl Seen {
         }
     }
 
-    /// Whether the bracket or the token is one too many.
-    fn is_deep(&self, terminal: Terminal) -> bool
-        requires open { self.now.brackets ≤ 256 }
-        requires declared { self.now.declared ≤ 2048 }
-        ensures value { result ≡ l.is_deep self.now terminal }
-        ensures shallow { result ≡ false → (l.opened self.now terminal ≤ 256) × (l.counted self.now terminal ≤ 2048) }
+    /// Whether the last bracket or token was one too many.
+    fn is_deep(&self) -> bool
+        ensures value { result ≡ (nat_lt 256 self.now.brackets || nat_lt 2048 self.now.declared) }
+        ensures shallow { result ≡ false → (self.now.brackets ≤ 256) × (self.now.declared ≤ 2048) }
     {
-        self.opened(terminal) > 256 || self.counted(terminal) > 2048
+        self.brackets > 256 || self.declared > 2048
     }
 
-    /// The rule that the token breaks, and its place.
-    fn passed(&self, token: Lexeme<'_>) -> Option<(Rule, Pos)>
-        requires open { self.now.brackets ≤ 256 }
-        requires declared { self.now.declared ≤ 2048 }
-        ensures value { result ≡ l.passed self.now (token_of token.entry) }
-        ensures shallow { IfNone result ((l.opened self.now token.entry.terminal ≤ 256) × (l.counted self.now token.entry.terminal ≤ 2048)) }
+    /// The rule that the token breaks, and its place; `next` stands behind it.
+    fn passed(&self, next: &Seen, token: &Lexeme<'_>) -> Option<(Rule, Pos)>
+        requires { next.now ≡ l.see self.now token.now.terminal (record { at = token.now.at }) }
+        ensures value { result ≡ l.passed self.now (token_of token.now) }
+        ensures shallow { IfNone result ((next.now.brackets ≤ 256) × (next.now.declared ≤ 2048)) }
     {
         let at = Pos { at: token.at };
         let wide = token.terminal == Terminal::Number && self.is_wide(token.text);
         match self.minus {
             Some(minus) if wide => Some((Rule::NumberTooWide, minus)),
-            _ if self.is_deep(token.terminal) => Some((Rule::TooDeep, at)),
+            _ if next.is_deep() => Some((Rule::TooDeep, at)),
             _ if wide => Some((Rule::NumberTooWide, at)),
             _ => None,
         }
@@ -166,10 +163,11 @@ pub fn first_limit(tokens: &[Lexeme<'_>]) -> Option<Limit>
     let mut index = 0;
     let mut left = tokens;
     'tokens: while let [token, rest @ ..] = left {
-        if let Some((rule, at)) = seen.passed(*token) {
+        let next = seen.see(token.terminal, Pos { at: token.at });
+        if let Some((rule, at)) = seen.passed(&next, token) {
             return Some(Limit { index, rule, at });
         }
-        seen = seen.see(token.terminal, Pos { at: token.at });
+        seen = next;
         index += 1;
         left = rest;
     }

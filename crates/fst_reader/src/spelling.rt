@@ -1,4 +1,4 @@
-ghost use Rattle.std.specs.Prelude.{◌≡◌, ◌≢◌, [], ◌∷◌, ◌==◌, length, map, filter, if◌then◌else◌};
+ghost use Rattle.std.specs.Prelude.{◌≡◌, ◌≢◌, [], ◌∷◌, ◌==◌, length, map, filter, bytes_eq, if◌then◌else◌};
 ghost use Rattle.fst_reader.specs.Spelling.{spelled, spelled_by};
 
 use crate::terminal::Terminal;
@@ -127,7 +127,7 @@ fn found(among: &[(&[u8], Terminal)], text: &[u8]) -> Terminal
 {
     let mut left = among;
     'words: while let [word, rest @ ..] = left {
-        if word.0 == text {
+        if is_text(word.0, text) {
             return word.1;
         }
         left = rest;
@@ -143,4 +143,20 @@ pub fn spelled_by(text: &[u8]) -> Terminal
         [byte] => of_byte(*byte),
         _ => found(of_length(text.len()), text),
     }
+}
+
+/// Whether the bytes are this text.
+fn is_text(text: &[u8], bytes: &[u8]) -> bool
+    ensures { result ≡ bytes_eq text.now bytes.now }
+{
+    let mut text = text;
+    let mut bytes = bytes;
+    'bytes: while let ([wanted, texts @ ..], [byte, more @ ..]) = (text, bytes) {
+        if wanted != byte {
+            return false;
+        }
+        text = texts;
+        bytes = more;
+    }
+    text.is_empty() && bytes.is_empty()
 }
