@@ -1,5 +1,6 @@
 pub mod ManyLemmas
 pub mod CharacterLemmas
+pub mod AsciiLemmas
 pub mod BlankLemmas
 pub mod WordLemmas
 pub mod NameLemmas
