@@ -2,7 +2,6 @@ pub mod ManyLemmas
 pub mod CharacterLemmas
 pub mod AsciiLemmas
 pub mod BlankLemmas
-pub mod WordLemmas
 pub mod NameLemmas
 pub mod MarkLemmas
 pub mod LexemeLemmas

@@ -1,99 +1,168 @@
-ghost use Rattle.std.specs.Prelude.{◌≡◌, ◌++◌, ◌==◌, map, filter, slice_index, bytes_eq};
-ghost use Rattle.std.specs.List.{list_any};
-ghost use Rattle.fst_text.specs.Words.{reserved, held, is_word};
+ghost use Rattle.std.specs.Prelude.{◌≡◌, ◌∷◌};
+ghost use Rattle.fst_text.specs.Words.{is_word};
 
-static OF_CAPITAL_D: [&[u8]; 1] = [b"DIV"];
+/// Whether a `D` and the rest are a word.
+fn after_capital_d(rest: &[u8]) -> bool
+    ensures { result ≡ is_word (68 ∷ rest.now) }
+{
+    matches!(rest, b"IV")
+}
 
-static OF_CAPITAL_G: [&[u8]; 1] = [b"GHOST"];
+/// Whether a `G` and the rest are a word.
+fn after_capital_g(rest: &[u8]) -> bool
+    ensures { result ≡ is_word (71 ∷ rest.now) }
+{
+    matches!(rest, b"HOST")
+}
 
-static OF_CAPITAL_P: [&[u8]; 1] = [b"PURE"];
+/// Whether a `P` and the rest are a word.
+fn after_capital_p(rest: &[u8]) -> bool
+    ensures { result ≡ is_word (80 ∷ rest.now) }
+{
+    matches!(rest, b"URE")
+}
 
-static OF_A: [&[u8]; 3] = [b"assert", b"and", b"abs"];
+/// Whether an `a` and the rest are a word.
+fn after_a(rest: &[u8]) -> bool
+    ensures { result ≡ is_word (97 ∷ rest.now) }
+{
+    matches!(rest, b"ssert" | b"nd" | b"bs")
+}
 
-static OF_B: [&[u8]; 3] = [b"by", b"bind", b"bool"];
+/// Whether a `b` and the rest are a word.
+fn after_b(rest: &[u8]) -> bool
+    ensures { result ≡ is_word (98 ∷ rest.now) }
+{
+    matches!(rest, b"y" | b"ind" | b"ool")
+}
 
-static OF_D: [&[u8]; 1] = [b"decreases"];
+/// Whether a `d` and the rest are a word.
+fn after_d(rest: &[u8]) -> bool
+    ensures { result ≡ is_word (100 ∷ rest.now) }
+{
+    matches!(rest, b"ecreases")
+}
 
-static OF_E: [&[u8]; 5] = [b"effect", b"else", b"end", b"ensures", b"either"];
+/// Whether an `e` and the rest are a word.
+fn after_e(rest: &[u8]) -> bool
+    ensures { result ≡ is_word (101 ∷ rest.now) }
+{
+    matches!(rest, b"ffect" | b"lse" | b"nd" | b"nsures" | b"ither")
+}
 
-static OF_F: [&[u8]; 4] = [b"fun", b"fst", b"false", b"forall"];
+/// Whether an `f` and the rest are a word.
+fn after_f(rest: &[u8]) -> bool
+    ensures { result ≡ is_word (102 ∷ rest.now) }
+{
+    matches!(rest, b"un" | b"st" | b"alse" | b"orall")
+}
 
-static OF_G: [&[u8]; 1] = [b"ghost"];
+/// Whether a `g` and the rest are a word.
+fn after_g(rest: &[u8]) -> bool
+    ensures { result ≡ is_word (103 ∷ rest.now) }
+{
+    matches!(rest, b"host")
+}
 
-static OF_I: [&[u8]; 7] = [b"input", b"in", b"if", b"int", b"inl", b"inr", b"interface"];
+/// Whether an `i` and the rest are a word.
+fn after_i(rest: &[u8]) -> bool
+    ensures { result ≡ is_word (105 ∷ rest.now) }
+{
+    matches!(
+        rest,
+        b"nput" | b"n" | b"f" | b"nt" | b"nl" | b"nr" | b"nterface"
+    )
+}
 
-static OF_L: [&[u8]; 5] = [b"lift", b"let", b"list", b"len", b"laws"];
+/// Whether an `l` and the rest are a word.
+fn after_l(rest: &[u8]) -> bool
+    ensures { result ≡ is_word (108 ∷ rest.now) }
+{
+    matches!(rest, b"ift" | b"et" | b"ist" | b"en" | b"aws")
+}
 
-static OF_M: [&[u8]; 4] = [b"match", b"min", b"max", b"module"];
+/// Whether an `m` and the rest are a word.
+fn after_m(rest: &[u8]) -> bool
+    ensures { result ≡ is_word (109 ∷ rest.now) }
+{
+    matches!(rest, b"atch" | b"in" | b"ax" | b"odule")
+}
 
-static OF_N: [&[u8]; 2] = [b"none", b"not"];
+/// Whether an `n` and the rest are a word.
+fn after_n(rest: &[u8]) -> bool
+    ensures { result ≡ is_word (110 ∷ rest.now) }
+{
+    matches!(rest, b"one" | b"ot")
+}
 
-static OF_O: [&[u8]; 1] = [b"option"];
+/// Whether an `o` and the rest are a word.
+fn after_o(rest: &[u8]) -> bool
+    ensures { result ≡ is_word (111 ∷ rest.now) }
+{
+    matches!(rest, b"ption")
+}
 
-static OF_R: [&[u8]; 5] = [b"result", b"return", b"reflect", b"reify", b"requires"];
+/// Whether an `r` and the rest are a word.
+fn after_r(rest: &[u8]) -> bool
+    ensures { result ≡ is_word (114 ∷ rest.now) }
+{
+    matches!(rest, b"esult" | b"eturn" | b"eflect" | b"eify" | b"equires")
+}
 
-static OF_S: [&[u8]; 2] = [b"snd", b"some"];
+/// Whether an `s` and the rest are a word.
+fn after_s(rest: &[u8]) -> bool
+    ensures { result ≡ is_word (115 ∷ rest.now) }
+{
+    matches!(rest, b"nd" | b"ome")
+}
 
-static OF_T: [&[u8]; 3] = [b"to", b"then", b"true"];
+/// Whether a `t` and the rest are a word.
+fn after_t(rest: &[u8]) -> bool
+    ensures { result ≡ is_word (116 ∷ rest.now) }
+{
+    matches!(rest, b"o" | b"hen" | b"rue")
+}
 
-static OF_U: [&[u8]; 3] = [b"unfold", b"unit", b"use"];
+/// Whether a `u` and the rest are a word.
+fn after_u(rest: &[u8]) -> bool
+    ensures { result ≡ is_word (117 ∷ rest.now) }
+{
+    matches!(rest, b"nfold" | b"nit" | b"se")
+}
 
-static OF_W: [&[u8]; 1] = [b"with"];
+/// Whether a `w` and the rest are a word.
+fn after_w(rest: &[u8]) -> bool
+    ensures { result ≡ is_word (119 ∷ rest.now) }
+{
+    matches!(rest, b"ith")
+}
 
-/// The words that begin with this byte.
-fn words_of(first: u8) -> &'static [&'static [u8]]
-    ensures { map (λ w. w.now) result.now ≡ filter (λ w. slice_index w 0 == first) (reserved ++ held) }
+/// Whether the first byte and the rest are a word.
+fn is_word_of(first: u8, rest: &[u8]) -> bool
+    ensures { result ≡ is_word (first ∷ rest.now) }
 {
     match first {
-        b'D' => &OF_CAPITAL_D,
-        b'G' => &OF_CAPITAL_G,
-        b'P' => &OF_CAPITAL_P,
-        b'a' => &OF_A,
-        b'b' => &OF_B,
-        b'd' => &OF_D,
-        b'e' => &OF_E,
-        b'f' => &OF_F,
-        b'g' => &OF_G,
-        b'i' => &OF_I,
-        b'l' => &OF_L,
-        b'm' => &OF_M,
-        b'n' => &OF_N,
-        b'o' => &OF_O,
-        b'r' => &OF_R,
-        b's' => &OF_S,
-        b't' => &OF_T,
-        b'u' => &OF_U,
-        b'w' => &OF_W,
-        _ => &[],
+        b'D' => after_capital_d(rest),
+        b'G' => after_capital_g(rest),
+        b'P' => after_capital_p(rest),
+        b'a' => after_a(rest),
+        b'b' => after_b(rest),
+        b'd' => after_d(rest),
+        b'e' => after_e(rest),
+        b'f' => after_f(rest),
+        b'g' => after_g(rest),
+        b'i' => after_i(rest),
+        b'l' => after_l(rest),
+        b'm' => after_m(rest),
+        b'n' => after_n(rest),
+        b'o' => after_o(rest),
+        b'r' => after_r(rest),
+        b's' => after_s(rest),
+        b't' => after_t(rest),
+        b'u' => after_u(rest),
+        b'w' => after_w(rest),
+        _ => false,
     }
-}
-
-/// Whether the bytes are the text.
-fn is_text(text: &[u8], bytes: &[u8]) -> bool
-    ensures { result ≡ bytes_eq text.now bytes.now }
-{
-    if text.len() != bytes.len() {
-        return false;
-    }
-    let mut at = 0;
-    while at < text.len() {
-        if text[at] != bytes[at] {
-            return false;
-        }
-        at += 1;
-    }
-    true
-}
-
-fn is_one_of(texts: &[&[u8]], bytes: &[u8]) -> bool
-    ensures { result ≡ list_any (λ text. bytes_eq text.now bytes.now) texts.now }
-{
-    for text in texts {
-        if is_text(text, bytes) {
-            return true;
-        }
-    }
-    false
 }
 
 /// Whether the identifier is reserved, or held for a later version.
@@ -101,7 +170,7 @@ pub fn is_word(name: &[u8]) -> bool
     ensures { result ≡ is_word name.now }
 {
     match name {
-        [first, ..] => is_one_of(words_of(*first), name),
+        [first, rest @ ..] => is_word_of(*first, rest),
         [] => false,
     }
 }
