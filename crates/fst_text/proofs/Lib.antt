@@ -1,7 +1,7 @@
 pub mod ManyLemmas
 pub mod CharacterLemmas
+pub mod AsciiLemmas
 pub mod BlankLemmas
-pub mod WordLemmas
 pub mod NameLemmas
 pub mod MarkLemmas
 pub mod LexemeLemmas

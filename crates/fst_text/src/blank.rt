@@ -10,7 +10,10 @@ fn blank_len(bytes: &[u8]) -> usize
 {
     match bytes {
         [b' ' | b'\t' | b'\n' | b'\r', ..] => 1,
-        [b'/', b'/', comment @ ..] => 2 + Class::Comment.run_len(comment),
+        [b'/', rest @ ..] => match rest {
+            [b'/', comment @ ..] => 2 + Class::Comment.run_len(comment),
+            _ => 0,
+        },
         _ => 0,
     }
 }

@@ -1,4 +1,4 @@
-ghost use Rattle.std.specs.Prelude.{◌≡◌, ◌≤◌, length};
+ghost use Rattle.std.specs.Prelude.{◌≡◌, ◌≤◌, ◌<◌, ◌+◌, ◌==◌, IsTrue, length, drop, slice_index};
 ghost use Rattle.fst_text.specs.Characters.{test_of, char_len, run_len};
 
 use unicode_ident::{is_xid_continue, is_xid_start};
@@ -25,6 +25,18 @@ impl Class {
         }
     }
 
+    /// Whether the byte is an ASCII character of the class.
+    pub fn has_ascii(self, byte: u8) -> bool
+        ensures value { byte < 128 → result ≡ test_of self byte }
+        ensures ascii { IsTrue result → byte < 128 }
+    {
+        match self {
+            Class::Start => byte.is_ascii_alphabetic() || byte == b'_',
+            Class::Continue => byte.is_ascii_alphanumeric() || byte == b'_',
+            Class::Comment => byte < 128 && byte != b'\n',
+        }
+    }
+
     /// How many bytes the first character has, 0 where it is not of the class or the bytes begin with none.
     pub fn char_len(self, bytes: &[u8]) -> usize
         ensures value { result ≡ char_len (test_of self) bytes.now }
@@ -37,8 +49,21 @@ impl Class {
         }
     }
 
-    /// How many bytes the characters of the class at the front have.
-    pub fn run_len(self, bytes: &[u8]) -> usize
+    /// How many ASCII characters of the class stand at the front, up to the first byte that is none.
+    fn ascii_len(self, bytes: &[u8]) -> usize
+        ensures value { run_len (test_of self) bytes.now ≡ result + run_len (test_of self) (drop result bytes.now) }
+        ensures stops { slice_index bytes.now result < 128 → run_len (test_of self) (drop result bytes.now) ≡ 0 }
+        ensures within { result ≤ length bytes.now }
+    {
+        let mut at = 0;
+        while at < bytes.len() && self.has_ascii(bytes[at]) {
+            at += 1;
+        }
+        at
+    }
+
+    /// How many bytes the characters of the class at the front have, decoded one by one.
+    fn decoded_len(self, bytes: &[u8]) -> usize
         ensures value { result ≡ run_len (test_of self) bytes.now }
         ensures within { result ≤ length bytes.now }
     {
@@ -50,5 +75,17 @@ impl Class {
             }
             at += size;
         }
+    }
+
+    /// How many bytes the characters of the class at the front have.
+    pub fn run_len(self, bytes: &[u8]) -> usize
+        ensures value { result ≡ run_len (test_of self) bytes.now }
+        ensures within { result ≤ length bytes.now }
+    {
+        let ascii = self.ascii_len(bytes);
+        if ascii < bytes.len() && bytes[ascii] >= 128 {
+            return ascii + self.decoded_len(&bytes[ascii..]);
+        }
+        ascii
     }
 }

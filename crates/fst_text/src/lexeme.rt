@@ -9,7 +9,8 @@ use crate::mark::mark_len;
 use crate::token::Kind;
 use crate::word::is_word;
 
-fn name_len(bytes: &[u8]) -> usize
+/// How many bytes the identifier at the front has, decoded.
+fn decoded_name_len(bytes: &[u8]) -> usize
     ensures value { result ≡ name_len bytes.now }
     ensures within { result ≤ length bytes.now }
 {
@@ -18,6 +19,19 @@ fn name_len(bytes: &[u8]) -> usize
         return 0;
     }
     first + Class::Continue.run_len(&bytes[first..])
+}
+
+/// How many bytes the identifier at the front has, 0 where none begins there.
+fn name_len(bytes: &[u8]) -> usize
+    ensures value { result ≡ name_len bytes.now }
+    ensures within { result ≤ length bytes.now }
+{
+    match bytes {
+        [] => 0,
+        [first, rest @ ..] if Class::Start.has_ascii(*first) => 1 + Class::Continue.run_len(rest),
+        [0..=127, ..] => 0,
+        _ => decoded_name_len(bytes),
+    }
 }
 
 fn number_len(bytes: &[u8]) -> usize

@@ -2,7 +2,7 @@ use Rattle.std.proofs.Common.{◌<◌, sym, ◌∙◌, arith}
 use Rattle.std.proofs.lemmas.List.{take_rest, length-drop}
 use Rattle.fst_text.proofs.ManyLemmas.{many-stops_at, many-steps_at}
 use Rattle.fst_text.proofs.CharacterLemmas.{char_len-within}
-use Rattle.fst_text.proofs.character.Class.run_len.Goals as goal
+use Rattle.fst_text.proofs.character.Class.decoded_len.Goals as goal
 
 pub returns-then-size-eq0-clause-value : goal.returns-then-size-eq0-clause-value
 returns-then-size-eq0-clause-value c =
