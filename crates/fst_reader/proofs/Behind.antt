@@ -15,6 +15,7 @@ use Rattle.fst_reader.specs.Trees as t
 use Rattle.fst_reader.specs.Trees.{Tree}
 use Rattle.fst_reader.specs.Productions as n
 use Rattle.fst_reader.specs.Reading.{reads, run, takes, given}
+use Rattle.fst_reader.specs.Following.{behind_disj, behind_conj, behind_cmp, behind_con, behind_sum, behind_prod, behind_un}
 use Rattle.fst_reader.proofs.Opens.{opens}
 use Rattle.fst_reader.proofs.Enclosed.{O, comes, given_if, given_act, if_both}
 
@@ -117,56 +118,36 @@ module _ (a : Tree) where
   abbrev F : Step × (Step × (Option (Pos × Tree) × (Option (Comparison × Tree) × (Step × (Step × Option (Pos × Tree)))))) → Tree
   F p = t.implied_by (p.1.1.1.1.1.0 (p.1.1.1.1.0 (t.compared_by (t.cons_by (p.1.0 (p.0 a)) p.1.1.0) p.1.1.1.0))) p.1.1.1.1.1.1
 
-  abbrev from_implies : Tree → List Token → O Tree
-  from_implies g ts = reads (n.implies_more false) ts >>= (λ h ks. Ok (t.implied_by g h, ks))
-
-  abbrev from_disj : Tree → List Token → O Tree
-  from_disj f ts = given f (reads (n.disj_more false) ts) >>= from_implies
-
-  abbrev from_conj : Tree → List Token → O Tree
-  from_conj e ts = given e (reads (n.conj_more false) ts) >>= from_disj
-
-  abbrev from_cmp : Tree → List Token → O Tree
-  from_cmp d ts = reads (n.cmp_more false) ts >>= (λ e ts. from_conj (t.compared_by d e) ts)
-
-  abbrev from_con : Tree → List Token → O Tree
-  from_con c ts = reads (n.con_more false) ts >>= (λ d ts. from_cmp (t.cons_by c d) ts)
-
-  abbrev from_sum : Tree → List Token → O Tree
-  from_sum b ts = given b (reads (n.sum_more false) ts) >>= from_con
-
   step6 : (x y : Step) (z : Option (Pos × Tree)) (u : Option (Comparison × Tree)) (v : Step) (ms : List Token)
-      → (Q6 ms >>= (λ p ks. Ok (F (x, (y, (z, (u, (v, p))))), ks))) ≡ from_disj (v (t.compared_by (t.cons_by (y (x a)) z) u)) ms
+      → (Q6 ms >>= (λ p ks. Ok (F (x, (y, (z, (u, (v, p))))), ks))) ≡ behind_conj false (v (t.compared_by (t.cons_by (y (x a)) z) u)) ms
   step6 x y z u v ms = pull (reads (n.disj_more false) ms) (reads (n.implies_more false)) (λ p. F (x, (y, (z, (u, (v, p))))))
-      ∙ through (v (t.compared_by (t.cons_by (y (x a)) z) u)) (reads (n.disj_more false) ms) from_implies
+      ∙ through (v (t.compared_by (t.cons_by (y (x a)) z) u)) (reads (n.disj_more false) ms) (behind_disj false)
 
   step5 : (x y : Step) (z : Option (Pos × Tree)) (u : Option (Comparison × Tree)) (ms : List Token)
-      → (Q5 ms >>= (λ p ks. Ok (F (x, (y, (z, (u, p)))), ks))) ≡ from_conj (t.compared_by (t.cons_by (y (x a)) z) u) ms
+      → (Q5 ms >>= (λ p ks. Ok (F (x, (y, (z, (u, p)))), ks))) ≡ behind_cmp false (t.compared_by (t.cons_by (y (x a)) z) u) ms
   step5 x y z u ms = pull (reads (n.conj_more false) ms) Q6 (λ p. F (x, (y, (z, (u, p)))))
-      ∙ then_same (reads (n.conj_more false) ms) (λ v ms. Q6 ms >>= (λ p ks. Ok (F (x, (y, (z, (u, (v, p))))), ks))) (λ v ms. from_disj (v (t.compared_by (t.cons_by (y (x a)) z) u)) ms) (step6 x y z u)
-      ∙ through (t.compared_by (t.cons_by (y (x a)) z) u) (reads (n.conj_more false) ms) from_disj
+      ∙ then_same (reads (n.conj_more false) ms) (λ v ms. Q6 ms >>= (λ p ks. Ok (F (x, (y, (z, (u, (v, p))))), ks))) (λ v ms. behind_conj false (v (t.compared_by (t.cons_by (y (x a)) z) u)) ms) (step6 x y z u)
+      ∙ through (t.compared_by (t.cons_by (y (x a)) z) u) (reads (n.conj_more false) ms) (behind_conj false)
 
   step4 : (x y : Step) (z : Option (Pos × Tree)) (ms : List Token)
-      → (Q4 ms >>= (λ p ks. Ok (F (x, (y, (z, p))), ks))) ≡ from_cmp (t.cons_by (y (x a)) z) ms
+      → (Q4 ms >>= (λ p ks. Ok (F (x, (y, (z, p))), ks))) ≡ behind_con false (t.cons_by (y (x a)) z) ms
   step4 x y z ms = pull (reads (n.cmp_more false) ms) Q5 (λ p. F (x, (y, (z, p))))
-      ∙ then_same (reads (n.cmp_more false) ms) (λ u ms. Q5 ms >>= (λ p ks. Ok (F (x, (y, (z, (u, p)))), ks))) (λ u ms. from_conj (t.compared_by (t.cons_by (y (x a)) z) u) ms) (step5 x y z)
+      ∙ then_same (reads (n.cmp_more false) ms) (λ u ms. Q5 ms >>= (λ p ks. Ok (F (x, (y, (z, (u, p)))), ks))) (λ u ms. behind_cmp false (t.compared_by (t.cons_by (y (x a)) z) u) ms) (step5 x y z)
 
-  step3 : (x y : Step) (ms : List Token) → (Q3 ms >>= (λ p ks. Ok (F (x, (y, p)), ks))) ≡ from_con (y (x a)) ms
+  step3 : (x y : Step) (ms : List Token) → (Q3 ms >>= (λ p ks. Ok (F (x, (y, p)), ks))) ≡ behind_sum false (y (x a)) ms
   step3 x y ms = pull (reads (n.con_more false) ms) Q4 (λ p. F (x, (y, p)))
-      ∙ then_same (reads (n.con_more false) ms) (λ z ms. Q4 ms >>= (λ p ks. Ok (F (x, (y, (z, p))), ks))) (λ z ms. from_cmp (t.cons_by (y (x a)) z) ms) (step4 x y)
+      ∙ then_same (reads (n.con_more false) ms) (λ z ms. Q4 ms >>= (λ p ks. Ok (F (x, (y, (z, p))), ks))) (λ z ms. behind_con false (t.cons_by (y (x a)) z) ms) (step4 x y)
 
-  step2 : (x : Step) (ms : List Token) → (Q2 ms >>= (λ p ks. Ok (F (x, p), ks))) ≡ from_sum (x a) ms
+  step2 : (x : Step) (ms : List Token) → (Q2 ms >>= (λ p ks. Ok (F (x, p), ks))) ≡ behind_prod false (x a) ms
   step2 x ms = pull (reads (n.sum_more false) ms) Q3 (λ p. F (x, p))
-      ∙ then_same (reads (n.sum_more false) ms) (λ y ms. Q3 ms >>= (λ p ks. Ok (F (x, (y, p)), ks))) (λ y ms. from_con (y (x a)) ms) (step3 x)
-      ∙ through (x a) (reads (n.sum_more false) ms) from_con
+      ∙ then_same (reads (n.sum_more false) ms) (λ y ms. Q3 ms >>= (λ p ks. Ok (F (x, (y, p)), ks))) (λ y ms. behind_sum false (y (x a)) ms) (step3 x)
+      ∙ through (x a) (reads (n.sum_more false) ms) (behind_sum false)
 
-  step1 : (ms : List Token) → (Q1 ms >>= (λ p ks. Ok (F p, ks))) ≡ (given a (reads (n.prod_more false) ms) >>= from_sum)
+  step1 : (ms : List Token) → (Q1 ms >>= (λ p ks. Ok (F p, ks))) ≡ (given a (reads (n.prod_more false) ms) >>= behind_prod false)
   step1 ms = pull (reads (n.prod_more false) ms) Q2 F
-      ∙ then_same (reads (n.prod_more false) ms) (λ x ms. Q2 ms >>= (λ p ks. Ok (F (x, p), ks))) (λ x ms. from_sum (x a) ms) step2
-      ∙ through a (reads (n.prod_more false) ms) from_sum
+      ∙ then_same (reads (n.prod_more false) ms) (λ x ms. Q2 ms >>= (λ p ks. Ok (F (x, p), ks))) (λ x ms. behind_prod false (x a) ms) step2
+      ∙ through a (reads (n.prod_more false) ms) (behind_prod false)
 
-  pub rest_opens : (ts : List Token) → given a (reads n.rest ts)
-      ≡ (given a (reads (n.prod_more false) ts) >>= (λ b ts. given b (reads (n.sum_more false) ts) >>= (λ c ts. reads (n.con_more false) ts >>= (λ d ts. reads (n.cmp_more false) ts >>= (λ e ts.
-      given (t.compared_by (t.cons_by c d) e) (reads (n.conj_more false) ts) >>= (λ f ts. given f (reads (n.disj_more false) ts) >>= (λ g ts. reads (n.implies_more false) ts >>= (λ h ks. Ok (t.implied_by g h, ks)))))))))
+  pub rest_opens : (ts : List Token) → given a (reads n.rest ts) ≡ behind_un false a ts
   rest_opens ts = ap (given a) (opens n.rest ts)
       ∙ given_act a (Q1 ts) (λ p a. t.implied_by (p.1.1.1.1.1.0 (p.1.1.1.1.0 (t.compared_by (t.cons_by (p.1.0 (p.0 a)) p.1.1.0) p.1.1.1.0))) p.1.1.1.1.1.1) ∙ step1 ts

@@ -6,6 +6,7 @@ pub mod Trees
 pub mod Productions
 pub mod Tables
 pub mod Reading
+pub mod Following
 pub mod Nests
 pub mod Limits
 pub mod Program

@@ -1,7 +1,10 @@
 //! Terms, formulas and their parts where no room is given.
 
 ghost use Rattle.std.specs.Prelude.{◌≡◌, ◌<◌, ◌≤◌, length, true, false, OnOk};
+ghost use Rattle.fst_grammar.specs.Alphabet.{next, has};
+ghost use Rattle.fst_reader.specs.Tokens.{alphabet};
 ghost use Rattle.fst_reader.specs.Productions as n;
+ghost use Rattle.fst_reader.specs.Tables.{operators};
 ghost use Rattle.fst_reader.specs.Reading.{Reads, reads, given};
 
 use crate::body::{PartNode, PartTree};
@@ -73,16 +76,31 @@ impl<'a> Reader<'a> {
             room: self.room(),
             term,
         };
-        let prod = terms.prod_more(self, first)?;
-        let sum = terms.sum_more(self, prod)?;
-        let more = terms.con_more(self)?;
-        let con = make::cons_by(self.alloc(), sum, more)?;
-        let more = terms.cmp_more(self)?;
-        let cmp = make::compared_by(self.alloc(), con, more)?;
-        let conj = terms.conj_more(self, cmp)?;
-        let disj = terms.disj_more(self, conj)?;
-        let more = terms.implies_more(self)?;
-        Ok(make::implied_by(self.alloc(), disj, more)?)
+        terms.behind(self, first)
+    }
+
+    /// Whether an operator comes next.
+    pub fn at_operator(&self) -> bool
+        ensures { result ≡ has alphabet operators (next alphabet self.now) }
+    {
+        match self.peek() {
+            Terminal::Star
+            | Terminal::Slash
+            | Terminal::Percent
+            | Terminal::Plus
+            | Terminal::Minus
+            | Terminal::ColonColon
+            | Terminal::Equal
+            | Terminal::NotEqual
+            | Terminal::LessEqual
+            | Terminal::Less
+            | Terminal::GreaterEqual
+            | Terminal::Greater
+            | Terminal::AmpAmp
+            | Terminal::BarBar
+            | Terminal::Implies => true,
+            _ => false,
+        }
     }
 
     #[tactic(auto, using(crate::proofs::Behind::named_part_opens))]

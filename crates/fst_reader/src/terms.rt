@@ -4,6 +4,7 @@
 ghost use Rattle.std.specs.Prelude.{◌≡◌, ◌<◌, ◌≤◌, length, OnOk};
 ghost use Rattle.fst_reader.specs.Productions as n;
 ghost use Rattle.fst_reader.specs.Reading.{Reads, reads, applied};
+ghost use Rattle.fst_reader.specs.Following.{behind_un};
 ghost use Rattle.fst_reader.specs.Nests.{Nests};
 
 use crate::form::Form;
@@ -35,16 +36,48 @@ impl<F: Fn(bool, &mut Reader<'_>, usize) -> Result<Form<Word>, Stop>> Terms<F> {
         (self.term)(self.formula, reader, self.room)
     }
 
-    #[tactic(auto, using(crate::proofs::Opens::opens))]
+    #[tactic(auto, using(crate::proofs::Following::term_opens))]
     pub fn whole(&self, reader: &mut Reader<'_>) -> Result<Form<Word>, Stop>
         requires nests { Nests self.now.formula self.now.room (F.pre self.now.term) (F.post self.now.term) }
         requires room { length reader.old ≤ self.now.room }
         ensures reads { Reads (reads (n.term self.now.formula) reader.old) result reader.new }
         ensures shorter { OnOk result (length reader.new < length reader.old) }
     {
-        let left = self.disj(reader)?;
+        let first = self.un(reader)?;
+        self.behind(reader, first)
+    }
+
+    /// The term whose first operand is read.
+    pub fn behind(&self, reader: &mut Reader<'_>, first: Form<Word>) -> Result<Form<Word>, Stop>
+        requires nests { Nests self.now.formula self.now.room (F.pre self.now.term) (F.post self.now.term) }
+        requires room { length reader.old ≤ self.now.room }
+        ensures reads { Reads (behind_un self.now.formula first reader.old) result reader.new }
+        ensures no_longer { OnOk result (length reader.new ≤ length reader.old) }
+    {
+        if reader.at_operator() {
+            self.operated(reader, first)
+        } else {
+            Ok(first)
+        }
+    }
+
+    /// The term whose first operand is read, level by level.
+    fn operated(&self, reader: &mut Reader<'_>, first: Form<Word>) -> Result<Form<Word>, Stop>
+        requires nests { Nests self.now.formula self.now.room (F.pre self.now.term) (F.post self.now.term) }
+        requires room { length reader.old ≤ self.now.room }
+        ensures reads { Reads (behind_un self.now.formula first reader.old) result reader.new }
+        ensures no_longer { OnOk result (length reader.new ≤ length reader.old) }
+    {
+        let prod = self.prod_more(reader, first)?;
+        let sum = self.sum_more(reader, prod)?;
+        let more = self.con_more(reader)?;
+        let con = make::cons_by(reader.alloc(), sum, more)?;
+        let more = self.cmp_more(reader)?;
+        let cmp = make::compared_by(reader.alloc(), con, more)?;
+        let conj = self.conj_more(reader, cmp)?;
+        let disj = self.disj_more(reader, conj)?;
         let more = self.implies_more(reader)?;
-        Ok(make::implied_by(reader.alloc(), left, more)?)
+        Ok(make::implied_by(reader.alloc(), disj, more)?)
     }
 
     #[tactic(auto, using(crate::proofs::Opens::opens))]
@@ -62,18 +95,6 @@ impl<F: Fn(bool, &mut Reader<'_>, usize) -> Result<Form<Word>, Stop>> Terms<F> {
             }
             _ => Ok(None),
         }
-    }
-
-    #[tactic(auto, using(crate::proofs::Chains::disj_opens))]
-    fn disj(&self, reader: &mut Reader<'_>) -> Result<Form<Word>, Stop>
-        requires nests { Nests self.now.formula self.now.room (F.pre self.now.term) (F.post self.now.term) }
-        requires room { length reader.old ≤ self.now.room }
-        ensures reads { Reads (reads (n.disj self.now.formula) reader.old) result reader.new }
-        ensures shorter { OnOk result (length reader.new < length reader.old) }
-    {
-        let left = self.conj(reader)?;
-        let tree = self.disj_more(reader, left)?;
-        Ok(tree)
     }
 
     pub fn disj_more(&self, reader: &mut Reader<'_>, left: Form<Word>) -> Result<Form<Word>, Stop>
