@@ -1,11 +1,14 @@
 -- The text of a token is UTF-8.
-use Rattle.std.proofs.Common.{◌≡◌, ℕ, nat_lt, ◌<◌, Bool, true, false, ◌||◌, ◌&&◌, List, [], ◌∷◌, refl, sym, subst, inl, inr, ◌⊎◌, arith, bytes_eq}
+use Rattle.std.proofs.Common.{◌≡◌, ℕ, nat_lt, ◌<◌, Bool, true, false, ◌||◌, ◌&&◌, List, [], ◌∷◌, ◌++◌, refl, sym, subst, inl, inr, ◌⊎◌, arith, bytes_eq}
 use Rattle.std.proofs.lemmas.Slice.Eq.{bytes_eq-Decides}
 use Rattle.std.proofs.lemmas.Str.{IsUtf8-from_ascii}
 use Rattle.std.proofs.lemmas.Str.Ascii.{IsAscii-nil, IsAscii-cons}
 use Rattle.std.proofs.lemmas.Bool.Decides.{nat_tests}
 use Rattle.std.specs.Str.{IsUtf8, IsAscii}
-use Rattle.std.specs.List.{list_all}
+use Rattle.std.specs.List.{list_all, All}
+use Rattle.std.proofs.lemmas.List.Elements.{All-nil, All-cons, All-append}
+use Rattle.fst_reader.specs.declared.lexeme.Lexeme.{Lexeme}
+use Rattle.fst_reader.specs.Tokens.{HasText}
 use Rattle.std.specs.Char.{is_ascii_digit}
 use Rattle.fst_text.specs.declared.token.Kind.{Kind}
 use Rattle.fst_text.specs.declared.token.Kind.TheVariants as kind
@@ -54,3 +57,6 @@ token_utf8 kind.Word bs t = name_utf8 bs t.0
 token_utf8 kind.Ident bs t = name_utf8 bs t.0
 token_utf8 kind.Number bs t = IsUtf8-from_ascii bs (number_ascii bs t.1)
 token_utf8 kind.Mark bs t = IsUtf8-from_ascii bs (mark_ascii bs t)
+
+pub all_texts_pushed : (xs ys : List Lexeme) (x : Lexeme) → All HasText xs → HasText x → ys ≡ xs ++ (x ∷ []) → All HasText ys
+all_texts_pushed xs ys x all one e = subst (All HasText) (sym e) (All-append HasText xs (x ∷ []) all (All-cons HasText x [] one (All-nil HasText)))

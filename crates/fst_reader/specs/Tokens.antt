@@ -1,5 +1,6 @@
 -- Tokens as the grammar sees them.
 use Rattle.std.specs.Prelude.{ℕ, List}
+use Rattle.std.specs.Str.{IsUtf8}
 use denote.Enum.Bare.{sameb}
 use Rattle.fst_reader.specs.contracts.terminal.Terminal.{the_type}
 use Rattle.fst_reader.specs.declared.terminal.Terminal.{Terminal}
@@ -17,6 +18,10 @@ pub record Token : Type 0 where
 
 abbrev pub token_of : Lexeme → Token
 token_of l = record { terminal = l.terminal; at = l.at; text = l.text.now }
+
+-- the bytes are a text
+abbrev pub HasText : Lexeme → Type 0
+HasText l = IsUtf8 l.text.now
 
 abbrev pub alphabet : Alphabet
 alphabet = record {

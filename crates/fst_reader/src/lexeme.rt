@@ -1,8 +1,9 @@
 //! The tokens of a text as the grammar sees them.
 
 ghost use Rattle.std.specs.Prelude.{◌≡◌, ◌<◌, ◌+◌, ◌^◌, length, map, [], IfOk};
-ghost use Rattle.fst_text.specs.Scans.{IsTokenOf, token_text};
-ghost use Rattle.fst_reader.specs.Tokens.{token_of};
+ghost use Rattle.std.specs.List.{All};
+ghost use Rattle.fst_text.specs.Scans.{IsTokenOf};
+ghost use Rattle.fst_reader.specs.Tokens.{token_of, HasText};
 ghost use Rattle.fst_reader.specs.Lexemes.{terminal_of, lexed, lexemes};
 ghost use Rattle.fst_reader.specs.Program.{Rising};
 
@@ -12,22 +13,21 @@ use crate::terminal::Terminal;
 use fst_base::OutOfMemory;
 use fst_text::{Kind, Scanner, Token};
 use std::alloc::Global;
-use std::str::from_utf8;
 
-/// A token with its terminal, its place and its text.
+/// A token with its terminal, its place and its text, which is UTF-8.
 #[derive(Clone, Copy, Debug)]
 pub struct Lexeme<'a> {
     pub terminal: Terminal,
     pub at: u32,
-    pub text: &'a str,
+    pub text: &'a [u8],
 }
 
-fn terminal_of(kind: Kind, text: &str) -> Terminal
+fn terminal_of(kind: Kind, text: &[u8]) -> Terminal
     ensures { result ≡ terminal_of kind text.now }
 {
     match kind {
-        Kind::Word => spelled_by(text.as_bytes()),
-        Kind::Mark => spelled_by(text.as_bytes()),
+        Kind::Word => spelled_by(text),
+        Kind::Mark => spelled_by(text),
         Kind::Number => {
             if magnitude(text) <= 4 {
                 Terminal::Small
@@ -36,7 +36,7 @@ fn terminal_of(kind: Kind, text: &str) -> Terminal
             }
         }
         Kind::Ident => {
-            match text.as_bytes() {
+            match text {
                 [b'_'] => Terminal::Hole,
                 _ => Terminal::Name,
             }
@@ -44,22 +44,12 @@ fn terminal_of(kind: Kind, text: &str) -> Terminal
     }
 }
 
-/// The text of a token, which is UTF-8.
-fn text_of<'a>(bytes: &'a [u8], token: Token) -> &'a str
-    requires { IsTokenOf bytes.now token }
-    ensures { result.now ≡ token_text bytes.now token }
-{
-    match from_utf8(&bytes[token.from as usize..token.to as usize]) {
-        Ok(text) => text,
-        Err(_) => "",
-    }
-}
-
 fn lexed<'a>(bytes: &'a [u8], token: Token) -> Lexeme<'a>
     requires { IsTokenOf bytes.now token }
-    ensures { token_of result ≡ lexed bytes.now token }
+    ensures value { token_of result ≡ lexed bytes.now token }
+    ensures utf8 { HasText result }
 {
-    let text = text_of(bytes, token);
+    let text = &bytes[token.from as usize..token.to as usize];
     Lexeme {
         terminal: terminal_of(token.kind, text),
         at: token.from,
@@ -72,6 +62,7 @@ fn lexed<'a>(bytes: &'a [u8], token: Token) -> Lexeme<'a>
 pub fn lexemes<'a>(alloc: Global, bytes: &'a [u8]) -> Result<Vec<Lexeme<'a>>, OutOfMemory>
     requires { length bytes.now + 1 < 2 ^ 32 }
     ensures value { IfOk result (λ found. map token_of found.items ≡ lexemes bytes.now) }
+    ensures utf8 { IfOk result (λ found. All HasText found.items) }
     ensures rising { Rising 0 (lexemes bytes.now) (length bytes.now) }
 {
     let mut found = Vec::new(alloc);
@@ -89,11 +80,12 @@ pub fn lexemes<'a>(alloc: Global, bytes: &'a [u8]) -> Result<Vec<Lexeme<'a>>, Ou
 }
 
 fn bad<'a>(at: u32) -> Lexeme<'a>
-    ensures { token_of result ≡ record { terminal = Terminal.Bad; at = at; text = [] } }
+    ensures value { token_of result ≡ record { terminal = Terminal.Bad; at = at; text = [] } }
+    ensures utf8 { HasText result }
 {
     Lexeme {
         terminal: Terminal::Bad,
         at,
-        text: "",
+        text: b"",
     }
 }

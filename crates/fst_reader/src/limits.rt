@@ -140,7 +140,7 @@ impl Seen {
     }
 
     /// Whether the digits are a literal outside 128 bits.
-    fn is_wide(&self, digits: &str) -> bool
+    fn is_wide(&self, digits: &[u8]) -> bool
         ensures { result ≡ l.is_wide self.now digits.now }
     {
         match self.minus {

@@ -2,7 +2,8 @@
 
 ghost use Rattle.std.specs.Prelude.{◌≡◌, ◌<◌, ◌+◌, [], ◌∷◌, length, map, Ok, Err, IfOk, IfErr, OnOk};
 ghost use Rattle.fst_grammar.specs.Alphabet.{next, has};
-ghost use Rattle.fst_reader.specs.Tokens.{alphabet, token_of};
+ghost use Rattle.std.specs.List.{All};
+ghost use Rattle.fst_reader.specs.Tokens.{alphabet, token_of, HasText};
 ghost use Rattle.fst_reader.specs.Program.{first_place};
 ghost use Rattle.fst_reader.specs.Productions as n;
 ghost use Rattle.fst_reader.specs.Reading.{Reads, reads, takes, words, numbers};
@@ -15,6 +16,7 @@ use crate::word::Word;
 use fst_base::{Name, OutOfMemory, Pos};
 use std::alloc::Global;
 use std::marker::Model;
+use std::str::from_utf8;
 
 /// Why a reading function stops: at the first token that is left, or for want of memory.
 #[derive(Clone, Copy, Debug, PartialEq, Eq)]
@@ -54,16 +56,20 @@ pub struct Reader<'a> {
 
 impl<'a> Model for Reader<'a> {
     ghost use Rattle.std.specs.Prelude.{List, map};
-    ghost use Rattle.fst_reader.specs.Tokens.{Token, token_of};
+    ghost use Rattle.std.specs.List.{All};
+    ghost use Rattle.fst_reader.specs.Tokens.{Token, token_of, HasText};
 
     ghost Value = { List Token };
 
     ghost view = { λ r. map token_of r.rest.now };
+
+    ghost invariant = { λ r. All HasText r.rest.now };
 }
 
 impl<'a> Reader<'a> {
     /// A reader of these tokens.
     pub fn new(alloc: Global, tokens: &'a [Lexeme<'a>]) -> Reader<'a>
+        requires { All HasText tokens.now }
         ensures { result ≡ map token_of tokens.now }
     {
         Reader {
@@ -145,7 +151,7 @@ impl<'a> Reader<'a> {
             [token, rest @ ..] => {
                 if token.terminal == terminal {
                     self.rest = rest;
-                    let text = Name::new(self.alloc, token.text)?;
+                    let text = name_of(self.alloc, *token)?;
                     Ok(Word {
                         text,
                         at: Pos { at: token.at },
@@ -225,12 +231,21 @@ impl<'a> Reader<'a> {
     }
 }
 
+/// The text of a token as a name.
+fn name_of(alloc: Global, token: Lexeme<'_>) -> Result<Name, OutOfMemory>
+    requires { HasText token }
+    ensures { IfOk result (λ name. name ≡ token.entry.text.now) }
+{
+    let text = from_utf8(token.text).unwrap_or("");
+    Name::new(alloc, text)
+}
+
 /// The number that the digits are, up to 2^127 + 1.
-pub fn magnitude(digits: &str) -> u128
+pub fn magnitude(digits: &[u8]) -> u128
     ensures { result ≡ magnitude digits.now }
 {
     let mut number: u128 = 0;
-    for digit in digits.as_bytes() {
+    for digit in digits {
         let digit = digit.saturating_sub(b'0') as u128;
         number = number
             .saturating_mul(10)

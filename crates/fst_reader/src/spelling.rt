@@ -1,79 +1,335 @@
-ghost use Rattle.std.specs.Prelude.{◌≡◌, ◌≢◌, [], ◌∷◌, ◌==◌, length, map, filter, bytes_eq, if◌then◌else◌};
+ghost use Rattle.std.specs.Prelude.{◌≡◌, ◌≢◌, [], ◌∷◌};
 ghost use Rattle.fst_reader.specs.Spelling.{spelled, spelled_by};
 
 use crate::terminal::Terminal;
 
-static OF_2: [(&[u8], Terminal); 11] = [
-    (b"to", Terminal::To),
-    (b"by", Terminal::By),
-    (b"in", Terminal::In),
-    (b"if", Terminal::If),
-    (b"::", Terminal::ColonColon),
-    (b"||", Terminal::BarBar),
-    (b"->", Terminal::Arrow),
-    (b"!=", Terminal::NotEqual),
-    (b"<=", Terminal::LessEqual),
-    (b">=", Terminal::GreaterEqual),
-    (b"&&", Terminal::AmpAmp),
-];
+/// The terminal that `D` and the rest spell.
+#[tactic(auto, unfolding(crate::specs::Spelling::spelled))]
+fn after_capital_d(rest: &[u8]) -> Terminal
+    ensures { result ≡ spelled_by spelled (68 ∷ rest.now) }
+{
+    match rest {
+        b"IV" => Terminal::DivEffect,
+        _ => Terminal::Held,
+    }
+}
 
-static OF_3: [(&[u8], Terminal); 12] = [
-    (b"fun", Terminal::Fun),
-    (b"let", Terminal::Let),
-    (b"end", Terminal::EndWord),
-    (b"int", Terminal::Int),
-    (b"fst", Terminal::Fst),
-    (b"snd", Terminal::Snd),
-    (b"inl", Terminal::Inl),
-    (b"inr", Terminal::Inr),
-    (b"len", Terminal::Len),
-    (b"not", Terminal::Not),
-    (b"DIV", Terminal::DivEffect),
-    (b"==>", Terminal::Implies),
-];
+/// The terminal that `G` and the rest spell.
+#[tactic(auto, unfolding(crate::specs::Spelling::spelled))]
+fn after_capital_g(rest: &[u8]) -> Terminal
+    ensures { result ≡ spelled_by spelled (71 ∷ rest.now) }
+{
+    match rest {
+        b"HOST" => Terminal::GhostEffect,
+        _ => Terminal::Held,
+    }
+}
 
-static OF_4: [(&[u8], Terminal); 12] = [
-    (b"lift", Terminal::Lift),
-    (b"bind", Terminal::Bind),
-    (b"then", Terminal::Then),
-    (b"else", Terminal::Else),
-    (b"with", Terminal::With),
-    (b"unit", Terminal::Unit),
-    (b"bool", Terminal::Bool),
-    (b"list", Terminal::List),
-    (b"none", Terminal::None),
-    (b"some", Terminal::Some),
-    (b"true", Terminal::True),
-    (b"PURE", Terminal::PureEffect),
-];
+/// The terminal that `P` and the rest spell.
+#[tactic(auto, unfolding(crate::specs::Spelling::spelled))]
+fn after_capital_p(rest: &[u8]) -> Terminal
+    ensures { result ≡ spelled_by spelled (80 ∷ rest.now) }
+{
+    match rest {
+        b"URE" => Terminal::PureEffect,
+        _ => Terminal::Held,
+    }
+}
 
-static OF_5: [(&[u8], Terminal); 6] = [
-    (b"input", Terminal::Input),
-    (b"ghost", Terminal::Ghost),
-    (b"match", Terminal::Match),
-    (b"reify", Terminal::Reify),
-    (b"false", Terminal::False),
-    (b"GHOST", Terminal::GhostEffect),
-];
+/// The terminal that `a` and the rest spell.
+#[tactic(auto, unfolding(crate::specs::Spelling::spelled))]
+fn after_a(rest: &[u8]) -> Terminal
+    ensures { result ≡ spelled_by spelled (97 ∷ rest.now) }
+{
+    match rest {
+        b"ssert" => Terminal::Assert,
+        _ => Terminal::Held,
+    }
+}
 
-static OF_6: [(&[u8], Terminal); 7] = [
-    (b"effect", Terminal::Effect),
-    (b"result", Terminal::Result),
-    (b"return", Terminal::Return),
-    (b"assert", Terminal::Assert),
-    (b"unfold", Terminal::Unfold),
-    (b"option", Terminal::Option),
-    (b"either", Terminal::Either),
-];
+/// The terminal that `b` and the rest spell.
+#[tactic(auto, unfolding(crate::specs::Spelling::spelled))]
+fn after_b(rest: &[u8]) -> Terminal
+    ensures { result ≡ spelled_by spelled (98 ∷ rest.now) }
+{
+    match rest {
+        b"y" => Terminal::By,
+        b"ind" => Terminal::Bind,
+        b"ool" => Terminal::Bool,
+        _ => Terminal::Held,
+    }
+}
 
-static OF_7: [(&[u8], Terminal); 2] = [
-    (b"reflect", Terminal::Reflect),
-    (b"ensures", Terminal::Ensures),
-];
+/// The terminal that `d` and the rest spell.
+#[tactic(auto, unfolding(crate::specs::Spelling::spelled))]
+fn after_d(rest: &[u8]) -> Terminal
+    ensures { result ≡ spelled_by spelled (100 ∷ rest.now) }
+{
+    match rest {
+        b"ecreases" => Terminal::Decreases,
+        _ => Terminal::Held,
+    }
+}
 
-static OF_8: [(&[u8], Terminal); 1] = [(b"requires", Terminal::Requires)];
+/// The terminal that `e` and the rest spell.
+#[tactic(auto, unfolding(crate::specs::Spelling::spelled))]
+fn after_e(rest: &[u8]) -> Terminal
+    ensures { result ≡ spelled_by spelled (101 ∷ rest.now) }
+{
+    match rest {
+        b"ffect" => Terminal::Effect,
+        b"lse" => Terminal::Else,
+        b"nd" => Terminal::EndWord,
+        b"nsures" => Terminal::Ensures,
+        b"ither" => Terminal::Either,
+        _ => Terminal::Held,
+    }
+}
 
-static OF_9: [(&[u8], Terminal); 1] = [(b"decreases", Terminal::Decreases)];
+/// The terminal that `f` and the rest spell.
+#[tactic(auto, unfolding(crate::specs::Spelling::spelled))]
+fn after_f(rest: &[u8]) -> Terminal
+    ensures { result ≡ spelled_by spelled (102 ∷ rest.now) }
+{
+    match rest {
+        b"un" => Terminal::Fun,
+        b"st" => Terminal::Fst,
+        b"alse" => Terminal::False,
+        _ => Terminal::Held,
+    }
+}
+
+/// The terminal that `g` and the rest spell.
+#[tactic(auto, unfolding(crate::specs::Spelling::spelled))]
+fn after_g(rest: &[u8]) -> Terminal
+    ensures { result ≡ spelled_by spelled (103 ∷ rest.now) }
+{
+    match rest {
+        b"host" => Terminal::Ghost,
+        _ => Terminal::Held,
+    }
+}
+
+/// The terminal that `i` and the rest spell.
+#[tactic(auto, unfolding(crate::specs::Spelling::spelled))]
+fn after_i(rest: &[u8]) -> Terminal
+    ensures { result ≡ spelled_by spelled (105 ∷ rest.now) }
+{
+    match rest {
+        b"nput" => Terminal::Input,
+        b"n" => Terminal::In,
+        b"f" => Terminal::If,
+        b"nt" => Terminal::Int,
+        b"nl" => Terminal::Inl,
+        b"nr" => Terminal::Inr,
+        _ => Terminal::Held,
+    }
+}
+
+/// The terminal that `l` and the rest spell.
+#[tactic(auto, unfolding(crate::specs::Spelling::spelled))]
+fn after_l(rest: &[u8]) -> Terminal
+    ensures { result ≡ spelled_by spelled (108 ∷ rest.now) }
+{
+    match rest {
+        b"ift" => Terminal::Lift,
+        b"et" => Terminal::Let,
+        b"ist" => Terminal::List,
+        b"en" => Terminal::Len,
+        _ => Terminal::Held,
+    }
+}
+
+/// The terminal that `m` and the rest spell.
+#[tactic(auto, unfolding(crate::specs::Spelling::spelled))]
+fn after_m(rest: &[u8]) -> Terminal
+    ensures { result ≡ spelled_by spelled (109 ∷ rest.now) }
+{
+    match rest {
+        b"atch" => Terminal::Match,
+        _ => Terminal::Held,
+    }
+}
+
+/// The terminal that `n` and the rest spell.
+#[tactic(auto, unfolding(crate::specs::Spelling::spelled))]
+fn after_n(rest: &[u8]) -> Terminal
+    ensures { result ≡ spelled_by spelled (110 ∷ rest.now) }
+{
+    match rest {
+        b"one" => Terminal::None,
+        b"ot" => Terminal::Not,
+        _ => Terminal::Held,
+    }
+}
+
+/// The terminal that `o` and the rest spell.
+#[tactic(auto, unfolding(crate::specs::Spelling::spelled))]
+fn after_o(rest: &[u8]) -> Terminal
+    ensures { result ≡ spelled_by spelled (111 ∷ rest.now) }
+{
+    match rest {
+        b"ption" => Terminal::Option,
+        _ => Terminal::Held,
+    }
+}
+
+/// The terminal that `r` and the rest spell.
+#[tactic(auto, unfolding(crate::specs::Spelling::spelled))]
+fn after_r(rest: &[u8]) -> Terminal
+    ensures { result ≡ spelled_by spelled (114 ∷ rest.now) }
+{
+    match rest {
+        b"esult" => Terminal::Result,
+        b"eturn" => Terminal::Return,
+        b"eflect" => Terminal::Reflect,
+        b"eify" => Terminal::Reify,
+        b"equires" => Terminal::Requires,
+        _ => Terminal::Held,
+    }
+}
+
+/// The terminal that `s` and the rest spell.
+#[tactic(auto, unfolding(crate::specs::Spelling::spelled))]
+fn after_s(rest: &[u8]) -> Terminal
+    ensures { result ≡ spelled_by spelled (115 ∷ rest.now) }
+{
+    match rest {
+        b"nd" => Terminal::Snd,
+        b"ome" => Terminal::Some,
+        _ => Terminal::Held,
+    }
+}
+
+/// The terminal that `t` and the rest spell.
+#[tactic(auto, unfolding(crate::specs::Spelling::spelled))]
+fn after_t(rest: &[u8]) -> Terminal
+    ensures { result ≡ spelled_by spelled (116 ∷ rest.now) }
+{
+    match rest {
+        b"o" => Terminal::To,
+        b"hen" => Terminal::Then,
+        b"rue" => Terminal::True,
+        _ => Terminal::Held,
+    }
+}
+
+/// The terminal that `u` and the rest spell.
+#[tactic(auto, unfolding(crate::specs::Spelling::spelled))]
+fn after_u(rest: &[u8]) -> Terminal
+    ensures { result ≡ spelled_by spelled (117 ∷ rest.now) }
+{
+    match rest {
+        b"nfold" => Terminal::Unfold,
+        b"nit" => Terminal::Unit,
+        _ => Terminal::Held,
+    }
+}
+
+/// The terminal that `w` and the rest spell.
+#[tactic(auto, unfolding(crate::specs::Spelling::spelled))]
+fn after_w(rest: &[u8]) -> Terminal
+    ensures { result ≡ spelled_by spelled (119 ∷ rest.now) }
+{
+    match rest {
+        b"ith" => Terminal::With,
+        _ => Terminal::Held,
+    }
+}
+
+/// The terminal that `:` and the rest spell.
+#[tactic(auto, unfolding(crate::specs::Spelling::spelled))]
+fn after_colon(rest: &[u8]) -> Terminal
+    ensures { result ≡ spelled_by spelled (58 ∷ rest.now) }
+{
+    match rest {
+        [] => Terminal::Colon,
+        b":" => Terminal::ColonColon,
+        _ => Terminal::Held,
+    }
+}
+
+/// The terminal that `|` and the rest spell.
+#[tactic(auto, unfolding(crate::specs::Spelling::spelled))]
+fn after_bar(rest: &[u8]) -> Terminal
+    ensures { result ≡ spelled_by spelled (124 ∷ rest.now) }
+{
+    match rest {
+        [] => Terminal::Bar,
+        b"|" => Terminal::BarBar,
+        _ => Terminal::Held,
+    }
+}
+
+/// The terminal that `-` and the rest spell.
+#[tactic(auto, unfolding(crate::specs::Spelling::spelled))]
+fn after_minus(rest: &[u8]) -> Terminal
+    ensures { result ≡ spelled_by spelled (45 ∷ rest.now) }
+{
+    match rest {
+        b">" => Terminal::Arrow,
+        [] => Terminal::Minus,
+        _ => Terminal::Held,
+    }
+}
+
+/// The terminal that `=` and the rest spell.
+#[tactic(auto, unfolding(crate::specs::Spelling::spelled))]
+fn after_equal(rest: &[u8]) -> Terminal
+    ensures { result ≡ spelled_by spelled (61 ∷ rest.now) }
+{
+    match rest {
+        [] => Terminal::Equal,
+        b"=>" => Terminal::Implies,
+        _ => Terminal::Held,
+    }
+}
+
+/// The terminal that `!` and the rest spell.
+#[tactic(auto, unfolding(crate::specs::Spelling::spelled))]
+fn after_exclamation(rest: &[u8]) -> Terminal
+    ensures { result ≡ spelled_by spelled (33 ∷ rest.now) }
+{
+    match rest {
+        b"=" => Terminal::NotEqual,
+        _ => Terminal::Held,
+    }
+}
+
+/// The terminal that `<` and the rest spell.
+#[tactic(auto, unfolding(crate::specs::Spelling::spelled))]
+fn after_less(rest: &[u8]) -> Terminal
+    ensures { result ≡ spelled_by spelled (60 ∷ rest.now) }
+{
+    match rest {
+        b"=" => Terminal::LessEqual,
+        [] => Terminal::Less,
+        _ => Terminal::Held,
+    }
+}
+
+/// The terminal that `>` and the rest spell.
+#[tactic(auto, unfolding(crate::specs::Spelling::spelled))]
+fn after_greater(rest: &[u8]) -> Terminal
+    ensures { result ≡ spelled_by spelled (62 ∷ rest.now) }
+{
+    match rest {
+        b"=" => Terminal::GreaterEqual,
+        [] => Terminal::Greater,
+        _ => Terminal::Held,
+    }
+}
+
+/// The terminal that `&` and the rest spell.
+#[tactic(auto, unfolding(crate::specs::Spelling::spelled))]
+fn after_ampersand(rest: &[u8]) -> Terminal
+    ensures { result ≡ spelled_by spelled (38 ∷ rest.now) }
+{
+    match rest {
+        b"&" => Terminal::AmpAmp,
+        _ => Terminal::Held,
+    }
+}
 
 /// The terminal that the byte spells as a mark.
 #[tactic(auto, unfolding(crate::specs::Spelling::spelled))]
@@ -103,60 +359,52 @@ fn of_byte(byte: u8) -> Terminal
     }
 }
 
-/// The words and marks of this length, which is not 1.
+/// The terminal that the first byte and the rest spell, which are more than one byte.
 #[tactic(auto, unfolding(crate::specs::Spelling::spelled))]
-fn of_length(len: usize) -> &'static [(&'static [u8], Terminal)]
-    requires { len ≢ 1 }
-    ensures { map (λ w. (w.0.now, w.1)) result.now ≡ filter (λ w. length w.0 == len) spelled }
+fn of_bytes(first: u8, rest: &[u8]) -> Terminal
+    requires { rest.now ≢ [] }
+    ensures { result ≡ spelled_by spelled (first ∷ rest.now) }
 {
-    match len {
-        2 => &OF_2,
-        3 => &OF_3,
-        4 => &OF_4,
-        5 => &OF_5,
-        6 => &OF_6,
-        7 => &OF_7,
-        8 => &OF_8,
-        9 => &OF_9,
-        _ => &[],
+    match first {
+        b'D' => after_capital_d(rest),
+        b'G' => after_capital_g(rest),
+        b'P' => after_capital_p(rest),
+        b'a' => after_a(rest),
+        b'b' => after_b(rest),
+        b'd' => after_d(rest),
+        b'e' => after_e(rest),
+        b'f' => after_f(rest),
+        b'g' => after_g(rest),
+        b'i' => after_i(rest),
+        b'l' => after_l(rest),
+        b'm' => after_m(rest),
+        b'n' => after_n(rest),
+        b'o' => after_o(rest),
+        b'r' => after_r(rest),
+        b's' => after_s(rest),
+        b't' => after_t(rest),
+        b'u' => after_u(rest),
+        b'w' => after_w(rest),
+        b':' => after_colon(rest),
+        b'|' => after_bar(rest),
+        b'-' => after_minus(rest),
+        b'=' => after_equal(rest),
+        b'!' => after_exclamation(rest),
+        b'<' => after_less(rest),
+        b'>' => after_greater(rest),
+        b'&' => after_ampersand(rest),
+        _ => Terminal::Held,
     }
-}
-
-fn found(among: &[(&[u8], Terminal)], text: &[u8]) -> Terminal
-    ensures { result ≡ spelled_by (map (λ w. (w.0.now, w.1)) among.now) text.now }
-{
-    let mut left = among;
-    'words: while let [word, rest @ ..] = left {
-        if is_text(word.0, text) {
-            return word.1;
-        }
-        left = rest;
-    }
-    Terminal::Held
 }
 
 /// The terminal that the text of a word or of a mark spells.
+#[tactic(auto, unfolding(crate::specs::Spelling::spelled))]
 pub fn spelled_by(text: &[u8]) -> Terminal
     ensures { result ≡ spelled_by spelled text.now }
 {
     match text {
         [byte] => of_byte(*byte),
-        _ => found(of_length(text.len()), text),
+        [first, rest @ ..] => of_bytes(*first, rest),
+        [] => Terminal::Held,
     }
-}
-
-/// Whether the bytes are this text.
-fn is_text(text: &[u8], bytes: &[u8]) -> bool
-    ensures { result ≡ bytes_eq text.now bytes.now }
-{
-    let mut text = text;
-    let mut bytes = bytes;
-    'bytes: while let ([wanted, texts @ ..], [byte, more @ ..]) = (text, bytes) {
-        if wanted != byte {
-            return false;
-        }
-        text = texts;
-        bytes = more;
-    }
-    text.is_empty() && bytes.is_empty()
 }

@@ -4,7 +4,8 @@ ghost use Rattle.std.specs.Prelude.{◌≡◌, ◌<◌, ◌^◌, ◌⊎◌, ℕ,
 ghost use Rattle.fst_reader.specs.Program.{Spells, FaultAt, Begins, IsProgram, IsRefused, AtLimit, Rising, place, first_place};
 ghost use Rattle.fst_reader.specs.Limits.{first_limit};
 ghost use Rattle.std.specs.Prelude as o;
-ghost use Rattle.fst_reader.specs.Tokens.{token_of};
+ghost use Rattle.std.specs.List.{All};
+ghost use Rattle.fst_reader.specs.Tokens.{token_of, HasText};
 ghost use Rattle.fst_reader.specs.Tokens as t;
 ghost use Rattle.fst_reader.specs.declared.decl.Decl as d;
 ghost use Rattle.fst_reader.specs.declared.word.Word as w;
@@ -30,6 +31,7 @@ enum Refusal {
 
 /// The declarations that the tokens spell, all of them.
 fn read_tokens(alloc: Global, tokens: &[Lexeme<'_>]) -> Result<Seq<RawDecl>, Refusal>
+    requires { All HasText tokens.now }
     ensures tree { IfOk result (λ decls. Spells decls (map token_of tokens.now)) }
     ensures only { (decls : List (d.Decl w.Word)) → Spells decls (map token_of tokens.now) → (result ≡ Ok decls) ⊎ (result ≡ Err Refusal.NoMemory) }
     ensures fault { (at : o.Option p.Pos) → result ≡ Err (Refusal.Syntax at) → (ks : List t.Token) × (FaultAt (map token_of tokens.now) ks × (at ≡ first_place ks)) }
@@ -47,6 +49,7 @@ fn read_tokens(alloc: Global, tokens: &[Lexeme<'_>]) -> Result<Seq<RawDecl>, Ref
 
 /// The answer where no limit is passed; the text ends at `end`.
 fn unlimited(alloc: Global, tokens: &[Lexeme<'_>], end: u32) -> Result<RawProgram, Fault>
+    requires { All HasText tokens.now }
     ensures tree { IfOk result (λ program. Spells program.decls (map token_of tokens.now)) }
     ensures only { (decls : List (d.Decl w.Word)) → Spells decls (map token_of tokens.now) → (result ≡ Ok (record { decls = decls })) ⊎ (result ≡ Err Fault.NoMemory) }
     ensures fault { (rule : r.Rule) (at : p.Pos) → result ≡ Err (Fault.Refused rule at) → (rule ≡ Rule.Syntax) × ((ks : List t.Token) × (FaultAt (map token_of tokens.now) ks × (at.at ≡ place end ks))) }
@@ -61,6 +64,7 @@ fn unlimited(alloc: Global, tokens: &[Lexeme<'_>], end: u32) -> Result<RawProgra
 
 /// The place of the fault among these tokens, if they do not begin a program.
 fn fault_among(alloc: Global, tokens: &[Lexeme<'_>]) -> Result<Option<Pos>, OutOfMemory>
+    requires { All HasText tokens.now }
     ensures begun { result ≡ Ok None → Begins (map token_of tokens.now) }
     ensures fault { (at : p.Pos) → result ≡ Ok (Some at) → (ks : List t.Token) × (FaultAt (map token_of tokens.now) ks × (Some at ≡ first_place ks)) }
 {
@@ -73,6 +77,7 @@ fn fault_among(alloc: Global, tokens: &[Lexeme<'_>]) -> Result<Option<Pos>, OutO
 
 /// The answer where a limit is passed, from the tokens up to it.
 fn up_to(alloc: Global, tokens: &[Lexeme<'_>], limit: Limit) -> Fault
+    requires utf8 { All HasText tokens.now }
     requires passed { first_limit (map token_of tokens.now) ≡ Some limit }
     requires within { limit.index < length tokens.now }
     ensures { (end : ℕ) → Rising 0 (map token_of tokens.now) end → AtLimit (map token_of tokens.now) end limit result }

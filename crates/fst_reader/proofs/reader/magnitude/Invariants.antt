@@ -3,4 +3,4 @@ use Rattle.fst_reader.specs.Trees.{magnitude}
 use Rattle.fst_reader.proofs.reader.magnitude.Given as goal
 
 abbrev pub invariant-loop-digit : goal.invariant-loop-digit
-invariant-loop-digit l = record { is : l.number ≡ magnitude (take l.digit-index l.digit-items); bounded : l.number ≤ 2 ^ 127 + 1 }
+invariant-loop-digit l = record { is : l.number ≡ magnitude (take l.digit-index l.digits); bounded : l.number ≤ 2 ^ 127 + 1 }
