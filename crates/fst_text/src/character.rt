@@ -49,7 +49,8 @@ impl Class {
         }
     }
 
-    /// How many ASCII characters of the class stand at the front, up to the first byte that is none.
+    /// How many bytes at the front are ASCII characters of the class. The run ends there, or goes on with a byte that is
+    /// not ASCII.
     fn ascii_len(self, bytes: &[u8]) -> usize
         ensures value { run_len (test_of self) bytes.now ≡ result + run_len (test_of self) (drop result bytes.now) }
         ensures stops { slice_index bytes.now result < 128 → run_len (test_of self) (drop result bytes.now) ≡ 0 }
@@ -77,7 +78,7 @@ impl Class {
         }
     }
 
-    /// How many bytes the characters of the class at the front have.
+    /// How many bytes the characters of the class at the front have: they are decoded only where a byte is not ASCII.
     pub fn run_len(self, bytes: &[u8]) -> usize
         ensures value { result ≡ run_len (test_of self) bytes.now }
         ensures within { result ≤ length bytes.now }

@@ -9,7 +9,7 @@ use crate::mark::mark_len;
 use crate::token::Kind;
 use crate::word::is_word;
 
-/// How many bytes the identifier at the front has, decoded.
+/// How many bytes the identifier at the front has, whose first character is decoded.
 fn decoded_name_len(bytes: &[u8]) -> usize
     ensures value { result ≡ name_len bytes.now }
     ensures within { result ≤ length bytes.now }
