@@ -7,7 +7,7 @@ ghost use Rattle.fst_reader.specs.Nests.{Nests};
 
 use crate::form::Form;
 use crate::make;
-use crate::reader::{Reader, Stop};
+use crate::reader::{Reader, Stop, both};
 use crate::terminal::Terminal;
 use crate::terms::Terms;
 use crate::word::Word;
@@ -178,8 +178,9 @@ impl<F: Fn(bool, &mut Reader<'_>, usize) -> Result<Form<Word>, Stop>> Terms<F> {
         reader.expect(Terminal::Then)?;
         let yes = self.nested(reader)?;
         reader.expect(Terminal::Else)?;
-        let no = self.nested(reader)?;
-        reader.expect(Terminal::RightParen)?;
+        let (front, no) = both((condition, yes), self.nested(reader))?;
+        let (parts, _) = both((front, no), reader.expect(Terminal::RightParen))?;
+        let ((condition, yes), no) = parts;
         Ok(make::choice(reader.alloc(), at, condition, yes, no)?)
     }
 
@@ -202,8 +203,9 @@ impl<F: Fn(bool, &mut Reader<'_>, usize) -> Result<Form<Word>, Stop>> Terms<F> {
             }
             _ => {
                 reader.expect(Terminal::Comma)?;
-                let second = self.nested(reader)?;
-                reader.expect(Terminal::RightParen)?;
+                let (first, second) = both(first, self.nested(reader))?;
+                let (parts, _) = both((first, second), reader.expect(Terminal::RightParen))?;
+                let (first, second) = parts;
                 Ok(make::binary(reader.alloc(), Op::Pair, at, first, second)?)
             }
         }
