@@ -4,8 +4,6 @@
 mod code;
 mod definition;
 mod term;
-#[cfg(test)]
-mod tests;
 mod text;
 
 pub use code::{Code, CodeFun};

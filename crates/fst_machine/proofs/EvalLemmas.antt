@@ -1,57 +1,46 @@
--- The value of an equation of two terms, and when a value is true.
-use Rattle.std.proofs.Common.{◌≡◌, ◌↔◌, ℕ, Bool, true, false, List, [], ◌∷◌, get_or, length, IsTrue, refl, sym, ap, ◌∙◌, rules}
-use Rattle.std.proofs.lemmas.Bool.{false≢true}
-use Rattle.fst_base.specs.declared.op.Op.{Op}
-use Rattle.fst_base.specs.declared.op.Op.TheVariants as op
-use Rattle.fst_base.specs.declared.value.Value.{Value}
-use Rattle.fst_base.specs.declared.value.Value as W
-use Rattle.fst_base.specs.declared.value.Value.TheVariants as V
+-- Values of terms in cells.
+use Rattle.std.proofs.Common.{◌≡◌, ℕ, length, List, Bool, true, false, if◌then◌else◌, Result, Ok, Err, refl, sym, ◌∙◌}
+use Rattle.fst_base.specs.Values.{Val, v_unit, v_bool, v_int, v_pair, v_none, v_some, v_nil, v_cons, v_inl, v_inr}
 use Rattle.fst_base.specs.Primitives.{is_true}
-use Rattle.fst_base.specs.Sorts.{Srt}
-use Rattle.fst_base.specs.Values.{Val, v_bool, plain_value}
-use Rattle.fst_base.proofs.ValueLemmas.{same-values, value-injective}
-use Rattle.fst_terms.specs.declared.term.Term.{Term}
-use Rattle.fst_terms.specs.Meaning.{Env}
-use Rattle.fst_terms.specs.Terms.{Tms, t_prim, t_end, t_more, plain_term, plain_terms}
-use Rattle.fst_program.specs.Evaluation.{Got, got, eval}
-use Rattle.fst_machine.specs.First.{TermFirst, equation}
+use Rattle.fst_program.specs.Evaluation.{Got, got, got_wide, got_stuck, got_then}
+use Rattle.fst_cells.specs.declared.cell.Cell.{Cell}
+use Rattle.fst_machine.specs.declared.memory.Memory.{Memory}
+use Rattle.fst_cells.specs.declared.cell.Node.{Node}
+use Rattle.fst_cells.specs.declared.cell.Node.TheVariants as node
+use Rattle.fst_machine.specs.declared.stop.Stop.{Stop}
+use Rattle.fst_machine.specs.declared.stop.Stop.TheVariants as stop
+use Rattle.fst_machine.specs.Memories.{is_true_node, NodeIs, IsCell}
+use Rattle.fst_cells.specs.Trees.{NodeOf}
+use Rattle.fst_machine.specs.Stops.{Gives}
 
--- two tests of one fact are one
-one_test : {A : Type 0} (t u : Bool) → (IsTrue t ↔ A) → (IsTrue u ↔ A) → t ≡ u
-one_test true true d e = refl
-one_test true false d e = absurd (false≢true (e.1 (d.0 refl)))
-one_test false true d e = absurd (false≢true (d.1 (e.0 refl)))
-one_test false false d e = refl
+-- a truth value's node
+node-true : (ns : List Node) (at : ℕ) (n : Node) (v : Val) → NodeOf ns at n v → is_true_node n ≡ is_true v
+node-true ns at node.Unit v_unit k = refl
+node-true ns at (node.Bool b) (v_bool c) k = k
+node-true ns at (node.Int b) (v_int c) k = refl
+node-true ns at (node.Pair c d) (v_pair a b) k = refl
+node-true ns at node.Nothing v_none k = refl
+node-true ns at (node.Just c) (v_some a) k = refl
+node-true ns at node.Nil v_nil k = refl
+node-true ns at (node.Cons c d) (v_cons a b) k = refl
+node-true ns at (node.Left c) (v_inl a) k = refl
+node-true ns at (node.Right c) (v_inr a) k = refl
+node-true ns at n v k = absurd k
 
-plain-bool : (b : Bool) → plain_value (V.Bool b) ≡ v_bool b
-plain-bool b = search (rules, W.the_lemmas)
+pub true-node : (m : Memory) (n : Node) (b : Bool) → b ≡ is_true_node n → (v : Val) → NodeIs m n v → b ≡ is_true v
+true-node m n b q v h = q ∙ node-true m.store.nodes (length m.store.nodes) n v h
 
--- a value that is no bool is not true
-pub not-true : (v : Value) → ((b : Bool) → v ≡ V.Bool b → ⊥) → false ≡ is_true (plain_value v)
-not-true v other = go (plain_value v) λ b e. other b (value-injective v (V.Bool b) (e ∙ sym (plain-bool b)))
-  where
-    go : (w : Val) → ((b : Bool) → w ≡ v_bool b → ⊥) → false ≡ is_true w
-    go (v_bool b) other = absurd (other b refl)
-    go w other = refl
+-- want of memory may come in place of anything
+pub gives-memory : (m : Memory) (r : Result Cell Stop) (s : Stop) (g : Got) → r ≡ Err s → s ≡ stop.NoMemory → Gives m r g
+gives-memory m r s g q p = rw (q, p) tt
 
--- an equation has two sides
-pub two-sides : (sides : List Term) → TermFirst (equation (plain_terms sides)) → length sides ≡ 2
-two-sides (t ∷ u ∷ []) h = refl
-two-sides [] h = absurd h
-two-sides (t ∷ []) h = absurd h
-two-sides (t ∷ u ∷ v ∷ ts) h = absurd h
+-- a term's `if` gives what the side gives that its test takes
+pub gives-true : (m m' : Memory) (c : Cell) (g x y : Got) (r : Result Cell Stop) → Gives m (Ok c) g → ((v : Val) → IsCell m c v → true ≡ is_true v) → Gives m' r x → Gives m' r (got_then g (λ v. if is_true v then x else y))
+gives-true m m' c (got v) x y r k t h = rw (sym (t v k)) h
+gives-true m m' c got_wide x y r k t h = absurd k
+gives-true m m' c (got_stuck at) x y r k t h = absurd k
 
-pub equation-value : (sides : List Term) (e : Env) (l r : Term) (a b : Value) (x : Bool) → TermFirst (equation (plain_terms sides)) → l ≡ get_or sides 0 l → r ≡ get_or sides 1 r
-    → eval true (plain_term l) e ≡ got (plain_value a) → eval true (plain_term r) e ≡ got (plain_value b) → (IsTrue x ↔ (a ≡ b)) → eval true (equation (plain_terms sides)) e ≡ got (plain_value (V.Bool x))
-equation-value (t ∷ u ∷ []) e l r a b x h p q f g d =
-    let f1 : eval true (plain_term t) e ≡ got (plain_value a) = ap (λ t. eval true (plain_term t) e) (sym p) ∙ f in
-    let g1 : eval true (plain_term u) e ≡ got (plain_value b) = ap (λ t. eval true (plain_term t) e) (sym q) ∙ g in
-    rw (f1, g1, plain-bool x) (ap (λ y. got (v_bool y)) (sym (one_test _ _ d (same-values a b))))
-equation-value [] e l r a b x h p q f g d = absurd h
-equation-value (t ∷ []) e l r a b x h p q f g d = absurd h
-equation-value (t ∷ u ∷ v ∷ ts) e l r a b x h p q f g d = absurd h
-
--- an operator of such a term gives what the equation of its sides gives
-pub operator-value : (o : Op) (S : Srt) (ts : Tms) (at : ℕ) (e : Env) (r : Got) → TermFirst (t_prim o S ts at) → eval true (equation ts) e ≡ r → eval true (t_prim o S ts at) e ≡ r
-operator-value op.Eq S (t_more t (t_more u t_end)) at e r h q = q
-operator-value o S ts at e r h q = absurd h
+pub gives-false : (m m' : Memory) (c : Cell) (g x y : Got) (r : Result Cell Stop) → Gives m (Ok c) g → ((v : Val) → IsCell m c v → false ≡ is_true v) → Gives m' r y → Gives m' r (got_then g (λ v. if is_true v then x else y))
+gives-false m m' c (got v) x y r k t h = rw (sym (t v k)) h
+gives-false m m' c got_wide x y r k t h = absurd k
+gives-false m m' c (got_stuck at) x y r k t h = absurd k

@@ -1,3 +1,11 @@
-pub mod FirstLemmas
+pub mod SoundLemmas
+pub mod TurnLemmas
+pub mod MemoryLemmas
+pub mod PartLemmas
 pub mod EvalLemmas
+pub mod ArgumentLemmas
+pub mod OperandLemmas
+pub mod ArmLemmas
 pub mod StateLemmas
+pub mod RunLemmas
+pub mod MachineLemmas

@@ -1,154 +1,171 @@
--- Steps of the machine.
-use Rattle.std.proofs.Common.{◌≡◌, ℕ, zero, suc, ◌+◌, ◌-◌, ◌<◌, ◌≤◌, Bool, true, false, if◌then◌else◌, List, [], ◌∷◌, ◌++◌, length, map, reverse, take, Option, Some, None, refl, sym, ap, ap₂, ◌∙◌, subst, arith}
-use Rattle.std.proofs.lemmas.List.{take-append-le, length-take-le, length-append, map-append, reverse-append}
-use Rattle.std.proofs.Math.Seq.{take-length}
+-- Steps of the machine's state.
+use Rattle.std.proofs.Common.{◌≡◌, ℕ, zero, suc, ◌<◌, nat_lt, length, slice_get, arith, IsTrue, option_map, Bool, if◌then◌else◌, List, [], ◌∷◌, ◌++◌, reverse, Result, Ok, Err, Option, Some, None, refl, sym, ap, ◌∙◌, subst}
+use Rattle.std.proofs.lemmas.Bool.{ltb-true}
+use Rattle.std.proofs.lemmas.List.{reverse-append}
+use Rattle.fst_base.specs.Values.{Val}
 use Rattle.fst_base.specs.Primitives.{is_true}
-use Rattle.fst_base.specs.declared.value.Value.{Value}
-use Rattle.fst_base.specs.Values.{Val, v_unit, plain_value}
 use Rattle.fst_terms.specs.Meaning.{Env}
-use Rattle.fst_terms.specs.Terms.{Tm}
-use Rattle.fst_program.specs.Texts.{Cm, c_ret, c_let, c_if, Fn, Prog, if_there, fun_at}
-use Rattle.fst_program.specs.Plain.{plain_comp}
-use Rattle.fst_program.specs.Evaluation.{got, eval}
-use Rattle.fst_program.specs.Runs.{Outcome, Done, Out, Stuck, then_do, with_value}
-use Rattle.fst_program.proofs.LevelLemmas.{ev_let, ev_if}
-use Rattle.fst_machine.specs.First.{TextFirst}
-use Rattle.fst_machine.specs.Answering.{code_run}
-use Rattle.fst_machine.specs.States.{env_of, text_run, resumed, state_run, Stacked, IsFit, Leads, Ended}
-use Rattle.fst_machine.specs.declared.state.Frame.{Frame}
+use Rattle.fst_terms.specs.Terms.{t_unit}
+use Rattle.fst_program.specs.Texts.{Dm, d_ret, Cm, c_bind, c_return, c_lift, EffDef, LftDef, Prog, if_there, effect_at, bind_text, return_text, lift_text}
+use Rattle.fst_program.specs.Evaluation.{Got, got, got_wide, got_stuck}
+use Rattle.fst_cells.specs.declared.cell.Cell.{Cell}
+use Rattle.fst_machine.specs.declared.memory.Chain.{Chain}
+use Rattle.fst_machine.specs.declared.memory.Memory.{Memory}
+use Rattle.fst_machine.specs.declared.stop.Stop.{Stop}
+use Rattle.fst_machine.specs.declared.stop.Stop.TheVariants as stop
+use Rattle.fst_machine.specs.declared.state.Header as H
+use Rattle.fst_machine.specs.declared.state.Header.TheVariants as header
+use Rattle.fst_machine.specs.declared.state.Task.TheVariants as task
+use Rattle.fst_machine.specs.declared.state.Frame as F
+use Rattle.fst_machine.specs.declared.state.Frame.TheVariants as frame
 use Rattle.fst_machine.specs.declared.state.State.{State}
+use Rattle.fst_machine.specs.Memories.{Keeps, IsCell, InputIs, IsChain}
+use Rattle.fst_machine.specs.Stops.{Gives}
+use Rattle.fst_machine.specs.States.{HeaderIs, TaskIs, FrameIs, FramesAre, StateIs, TurnIs}
+use Rattle.fst_machine.specs.Turns.{lift_at, IsCode, Hdr, no_header, lift_header, bind_header, run_text, run_def, Frm, let_rest, def_rest, return_rest, Turn, next, with_got, given, give, g_turn, def_turn}
+use Rattle.fst_machine.proofs.MemoryLemmas.{value-kept, input-kept, chain-kept}
 
--- ---- texts
+-- ---- as the memory grows
 
-pub run_ret : (P : Prog) (l : ℕ) (e : Env) (t : Tm) → text_run P (suc l) e (c_ret t) ≡ with_value (eval true t e) (λ v. Done v l)
-unfolding text_run
-run_ret P l e t = refl
+pub header-kept : (m m' : Memory) (h : H.Header) (k : Hdr) → Keeps m m' → HeaderIs m h k → HeaderIs m' h k
+header-kept m m' header.None no_header n h = tt
+header-kept m m' (header.Lift c env) (lift_header d e) n h = (h.0, chain-kept m m' env e n h.1)
+header-kept m m' (header.Bind c1 c2 env) (bind_header d1 d2 e) n h = (h.0, h.1, chain-kept m m' env e n h.2)
+header-kept m m' h k n i = absurd i
 
-pub run_let : (P : Prog) (l : ℕ) (e : Env) (x : List ℕ) (c1 c2 : Cm) → text_run P (suc l) e (c_let x c1 c2) ≡ then_do (text_run P l e c1) (λ v r. text_run P r (v ∷ e) c2)
-unfolding text_run
-run_let P l e x c1 c2 = ev_let (λ k vs. v_unit) P 0 true (suc l) x c1 c2 e v_unit
+frame-kept : (m m' : Memory) (f : F.Frame) (g : Frm) → Keeps m m' → FrameIs m f g → FrameIs m' f g
+frame-kept m m' (frame.Let c env input) (let_rest d e s) n h = (h.0, chain-kept m m' env e n h.1, input-kept m m' input s n h.2)
+frame-kept m m' (frame.Definition c env k) (def_rest d e l) n h = (h.0, chain-kept m m' env e n h.1, header-kept m m' k l n h.2)
+frame-kept m m' (frame.Return c input) (return_rest d s) n h = (h.0, input-kept m m' input s n h.1)
+frame-kept m m' f g n h = absurd h
 
-pub run_if : (P : Prog) (l : ℕ) (e : Env) (t : Tm) (c1 c2 : Cm) → text_run P (suc l) e (c_if t c1 c2) ≡ with_value (eval true t e) (λ v. if is_true v then text_run P l e c1 else text_run P l e c2)
-unfolding text_run
-run_if P l e t c1 c2 = ev_if (λ k vs. v_unit) P 0 true (suc l) t c1 c2 e v_unit
+pub frames-kept : (m m' : Memory) (fs : List F.Frame) (gs : List Frm) → Keeps m m' → FramesAre m fs gs → FramesAre m' fs gs
+frames-kept m m' [] [] n h = tt
+frames-kept m m' [] (g ∷ gs) n h = absurd h
+frames-kept m m' (f ∷ fs) [] n h = absurd h
+frames-kept m m' (f ∷ fs) (g ∷ gs) n h = (frame-kept m m' f g n h.0, frames-kept m m' fs gs n h.1)
 
-pub run_zero : (P : Prog) (e : Env) (c : Cm) → TextFirst c → text_run P zero e c ≡ Out
-unfolding text_run
-run_zero P e (c_ret t) h = refl
-run_zero P e (c_let x c1 c2) h = refl
-run_zero P e (c_if t c1 c2) h = refl
-run_zero P e c h = absurd h
+pub frames-push : (m : Memory) (fs hs : List F.Frame) (f : F.Frame) (g : Frm) (gs : List Frm) → hs ≡ fs ++ f ∷ [] → FrameIs m f g → FramesAre m (reverse fs) gs → FramesAre m (reverse hs) (g ∷ gs)
+frames-push m fs hs f g gs q h k = subst (λ xs. FramesAre m xs (g ∷ gs)) (sym (ap reverse q ∙ reverse-append fs (f ∷ []))) (h, k)
 
--- ---- rests that wait
+-- ---- terms
 
-pub resumed-out : (P : Prog) (vs : List Value) (fs : List Frame) → resumed P vs fs Out ≡ Out
-resumed-out P vs [] = refl
-resumed-out P vs (f ∷ fs) = resumed-out P (take f.depth vs) fs
-
-take-shorter : {A : Type 0} (d n : ℕ) (xs ys : List A) → d ≤ n → take n xs ≡ take n ys → take d xs ≡ take d ys
-take-shorter zero n xs ys h e = refl
-take-shorter (suc d) zero xs ys h e = absurd (omega arith)
-take-shorter (suc d) (suc n) [] [] h e = refl
-take-shorter (suc d) (suc n) [] (y ∷ ys) h e = cc
-take-shorter (suc d) (suc n) (x ∷ xs) [] h e = cc
-take-shorter (suc d) (suc n) (x ∷ xs) (y ∷ ys) h e =
-    let head : x ≡ y = cc in
-    let tail : take n xs ≡ take n ys = cc in
-    ap₂ ◌∷◌ head (take-shorter d n xs ys (omega arith) tail)
-
--- rests see no more than their own variables
-resumed-first : (P : Prog) (n : ℕ) (vs ws : List Value) (fs : List Frame) (o : Outcome) → Stacked n fs → take n vs ≡ take n ws → resumed P vs fs o ≡ resumed P ws fs o
-resumed-first P n vs ws [] o h e = refl
-resumed-first P n vs ws (f ∷ fs) o h e = ap (λ us. resumed P us fs (then_do o (λ v l. text_run P l (v ∷ env_of us) (plain_comp f.next.now)))) (take-shorter f.depth n vs ws h.0 e)
-
-Stacked-more : (n m : ℕ) (fs : List Frame) → n ≤ m → Stacked n fs → Stacked m fs
-Stacked-more n m [] le h = tt
-Stacked-more n m (f ∷ fs) le h = (omega (arith, h.0), h.1, h.2)
-
-env-more : (vs : List Value) (v : Value) → env_of (vs ++ v ∷ []) ≡ plain_value v ∷ env_of vs
-env-more vs v = ap reverse (map-append plain_value vs (v ∷ [])) ∙ reverse-append (map plain_value vs) (plain_value v ∷ [])
-
--- ---- steps
-
--- the value of a text goes to the innermost rest
-pub given : (s t : State) (f : Frame) (v : Value) → Stacked (length s.env) (reverse s.frames) → s.frames ≡ t.frames ++ f ∷ [] → t.env ≡ take f.depth s.env ++ v ∷ [] → t.node.now ≡ f.next.now
-    → Leads (λ P l. resumed P s.env (reverse s.frames) (Done (plain_value v) l)) t None
-given s t f v h p q r =
-    let e : reverse s.frames ≡ f ∷ reverse t.frames = ap reverse p ∙ reverse-append t.frames (f ∷ []) in
-    let stack : Stacked (length s.env) (f ∷ reverse t.frames) = subst (Stacked (length s.env)) e h in
-    let len : length (take f.depth s.env) ≡ f.depth = length-take-le f.depth s.env stack.0 in
-    let long : f.depth ≤ length t.env = omega (arith, ap length q, length-append (take f.depth s.env) (v ∷ []), len) in
-    let first : take f.depth t.env ≡ take f.depth (take f.depth s.env) = ap (take f.depth) q ∙ take-append-le f.depth (take f.depth s.env) (v ∷ []) (omega (arith, len)) in (
-      record { node = subst (λ c. TextFirst (plain_comp c)) (sym r) stack.1; frames = Stacked-more f.depth (length t.env) (reverse t.frames) long stack.2 },
-      λ P l. resumed-first P f.depth t.env (take f.depth s.env) (reverse t.frames) (text_run P l (env_of t.env) (plain_comp t.node.now)) stack.2 first
-          ∙ ap₂ (λ en c. resumed P (take f.depth s.env) (reverse t.frames) (text_run P l en (plain_comp c))) (ap env_of q ∙ env-more (take f.depth s.env) v) r
-          ∙ ap (λ fs. resumed P s.env fs (Done (plain_value v) l)) (sym e),
-    )
-
--- a let begins with its bound part, and its rest waits with all variables
-let_step : (P : Prog) (l : ℕ) (vs : List Value) (f : Frame) (fs : List Frame) (x : List ℕ) (c1 c2 : Cm) → plain_comp f.next.now ≡ c2 → f.depth ≡ length vs
-    → resumed P vs (f ∷ fs) (text_run P l (env_of vs) c1) ≡ resumed P vs fs (text_run P (suc l) (env_of vs) (c_let x c1 c2))
-let_step P l vs f fs x c1 c2 n d =
-    let whole : take f.depth vs ≡ vs = ap (λ k. take k vs) d ∙ take-length vs in
-    ap₂ (λ us c. resumed P us fs (then_do (text_run P l (env_of vs) c1) (λ v r. text_run P r (v ∷ env_of us) c))) whole n
-    ∙ ap (resumed P vs fs) (sym (run_let P l (env_of vs) x c1 c2))
-
-pub let_begun : (s t : State) (f : Frame) (x : List ℕ) (c1 c2 : Cm) → IsFit s → plain_comp s.node.now ≡ c_let x c1 c2 → t.frames ≡ s.frames ++ f ∷ [] → t.env ≡ s.env → plain_comp t.node.now ≡ c1 → plain_comp f.next.now ≡ c2 → f.depth ≡ length s.env
-    → Leads (λ P l. state_run P s (suc l)) t None
-let_begun s t f x c1 c2 fit node p q r n d =
-    let e : reverse t.frames ≡ f ∷ reverse s.frames = ap reverse p ∙ reverse-append s.frames (f ∷ []) in
-    let both : TextFirst (c_let x c1 c2) = subst TextFirst node fit.node in
-    let stack : Stacked (length t.env) (f ∷ reverse s.frames) = (omega (arith, d, ap length q), subst TextFirst (sym n) both.1, subst (λ k. Stacked k (reverse s.frames)) (sym d) fit.frames) in (
-      record { node = subst TextFirst (sym r) both.0; frames = subst (Stacked (length t.env)) (sym e) stack },
-      λ P l. ap₂ (λ us fs. resumed P us fs (text_run P l (env_of us) (plain_comp t.node.now))) q e
-          ∙ ap (λ c. resumed P s.env (f ∷ reverse s.frames) (text_run P l (env_of s.env) c)) r
-          ∙ let_step P l s.env f (reverse s.frames) x c1 c2 n d
-          ∙ ap (λ c. resumed P s.env (reverse s.frames) (text_run P (suc l) (env_of s.env) c)) (sym node),
-    )
-
--- an `if` goes on with a side
-pub side_taken : (s t : State) (u : Tm) (c1 c2 : Cm) (v : Val) → IsFit s → plain_comp s.node.now ≡ c_if u c1 c2 → eval true u (env_of s.env) ≡ got v → t.frames ≡ s.frames → t.env ≡ s.env → plain_comp t.node.now ≡ (if is_true v then c1 else c2)
-    → Leads (λ P l. state_run P s (suc l)) t None
-side_taken s t u c1 c2 v fit node ev p q r =
-    let three : TextFirst (c_if u c1 c2) = subst TextFirst node fit.node in (
-      record { node = subst TextFirst (sym r) (chosen (is_true v) three.1 three.2); frames = rw (p, q) fit.frames },
-      λ P l. rw (p, q, r, node, run_if P l (env_of s.env) u c1 c2, ev) (ap (resumed P s.env (reverse s.frames)) (same (is_true v) P l)),
-    )
+-- a term's fault is that of the unit
+pub stop-turn : (s : State) (r : Result (Option Cell) Stop) (x : Stop) (g : Got) (k : Val → Turn) → r ≡ Err x → Gives s.memory (Err x) g → TurnIs s r (with_got g k)
+stop-turn s r x g k q h = subst (λ r. TurnIs s r (with_got g k)) (sym q) (go x g h)
   where
-    chosen : (b : Bool) → TextFirst c1 → TextFirst c2 → TextFirst (if b then c1 else c2)
-    chosen true h k = h
-    chosen false h k = k
+    go : (x : Stop) (g : Got) → Gives s.memory (Err x) g → TurnIs s (Err x) (with_got g k)
+    go stop.PastRange (got v) h = absurd h
+    go stop.PastRange got_wide h = tt
+    go stop.PastRange (got_stuck at) h = absurd h
+    go (stop.Stuck p) (got v) h = absurd h
+    go (stop.Stuck p) got_wide h = absurd h
+    go (stop.Stuck p) (got_stuck at) h = h
+    go stop.NoMemory g h = tt
 
-    same : (b : Bool) (P : Prog) (l : ℕ) → text_run P l (env_of s.env) (if b then c1 else c2) ≡ (if b then text_run P l (env_of s.env) c1 else text_run P l (env_of s.env) c2)
-    same true P l = refl
-    same false P l = refl
+-- a term's value goes on
+pub value-turn : (s : State) (r : Result (Option Cell) Stop) (m : Memory) (c : Cell) (g : Got) (k : Val → Turn) → Gives m (Ok c) g → ((v : Val) → IsCell m c v → TurnIs s r (k v)) → TurnIs s r (with_got g k)
+value-turn s r m c (got v) k h n = n v h
+value-turn s r m c got_wide k h n = absurd h
+value-turn s r m c (got_stuck at) k h n = absurd h
 
--- a tail term gives its value
-pub ret_given : (s t : State) (u : Tm) (v : Value) (o : Option Value) → plain_comp s.node.now ≡ c_ret u → eval true u (env_of s.env) ≡ got (plain_value v)
-    → Leads (λ P l. resumed P s.env (reverse s.frames) (Done (plain_value v) l)) t o → Leads (λ P l. state_run P s (suc l)) t o
-ret_given s t u v o node ev h = go o h
+-- ---- values that are given
+
+pub give-turn : (s : State) (m : Memory) (fs : List F.Frame) (f : F.Frame) (ps : List Frm) (v : Val) → fs ≡ s.frames ++ f ∷ [] → Keeps m s.memory → ((p : Frm) → FrameIs m f p → TaskIs s.memory s.task (given p v)) → FramesAre m (reverse fs) ps → TurnIs s (Ok None) (give v ps)
+give-turn s m fs f ps v q n t h = go ps (subst (λ xs. FramesAre m xs ps) (ap reverse q ∙ reverse-append s.frames (f ∷ [])) h)
   where
-    step : (P : Prog) (l : ℕ) → state_run P s (suc l) ≡ resumed P s.env (reverse s.frames) (Done (plain_value v) l)
-    step P l = rw (node, run_ret P l (env_of s.env) u, ev) refl
+    go : (ps : List Frm) → FramesAre m (f ∷ reverse s.frames) ps → TurnIs s (Ok None) (give v ps)
+    go [] h = absurd h
+    go (p ∷ ps) h = (t p h.0, frames-kept m s.memory (reverse s.frames) ps n h.1)
 
-    go : (o : Option Value) → Leads (λ P l. resumed P s.env (reverse s.frames) (Done (plain_value v) l)) t o → Leads (λ P l. state_run P s (suc l)) t o
-    go None h = (h.0, λ P l. h.1 P l ∙ sym (step P l))
-    go (Some w) h = λ P l. step P l ∙ h P l
+-- what a link makes of an environment
+abbrev pub Links : Memory → Memory → Cell → Chain → Chain → Type 0
+Links m m' c rest env = (v : Val) (e : Env) → IsCell m c v → IsChain m rest e → IsChain m' env (v ∷ e)
 
--- ---- runs
+pub let-given : (m m' : Memory) (text : _) (env env' : Chain) (input : Option Cell) (c : Cell) (v : Val) → Keeps m m' → Links m m' c env env' → IsCell m c v → (p : Frm) → FrameIs m (frame.Let text env input) p → TaskIs m' (task.Text text env' input) (given p v)
+let-given m m' text env env' input c v n l h (let_rest d e s) k = (k.0, l v e h k.1, input-kept m m' input s n k.2)
+let-given m m' text env env' input c v n l h (def_rest d e x) k = absurd k
+let-given m m' text env env' input c v n l h (return_rest d s) k = absurd k
 
-pub goes_on : (P : Prog) (s t : State) (F i : ℕ) (X : Outcome) → i < F → ((l : ℕ) → state_run P t l ≡ state_run P s (suc l)) → state_run P s (F - i) ≡ X → state_run P t (F - (i + 1)) ≡ X
-goes_on P s t F i X lt h inv = let q : F - i ≡ suc (F - (i + 1)) = omega arith in h (F - (i + 1)) ∙ (rw q at inv)
+pub def-given : (m m' : Memory) (text : _) (env env' : Chain) (x : H.Header) (c : Cell) (v : Val) → Keeps m m' → Links m m' c env env' → IsCell m c v → (p : Frm) → FrameIs m (frame.Definition text env x) p → TaskIs m' (task.Definition text env' x) (given p v)
+def-given m m' text env env' x c v n l h (let_rest d e s) k = absurd k
+def-given m m' text env env' x c v n l h (def_rest d e y) k = (k.0, l v e h k.1, header-kept m m' x y n k.2)
+def-given m m' text env env' x c v n l h (return_rest d s) k = absurd k
 
-pub is_over : (P : Prog) (s : State) (F i : ℕ) (X : Outcome) (v : Value) → i < F → ((l : ℕ) → state_run P s (suc l) ≡ Done (plain_value v) l) → state_run P s (F - i) ≡ X → Ended X (Some v)
-is_over P s F i X v lt h inv = let q : F - i ≡ suc (F - (i + 1)) = omega arith in (F - (i + 1), sym (rw q at inv) ∙ h (F - (i + 1)))
+-- of a return the environment holds the value and the input
+pub return-given : (m m1 m2 m3 : Memory) (text : _) (empty env env' : Chain) (input : Option Cell) (c i : Cell) (v : Val) → Keeps m m1 → Keeps m1 m2 → Keeps m2 m3 → IsChain m empty [] → Links m m1 c empty env
+    → ((s : Val) → InputIs m1 input s → IsCell m2 i s) → Links m2 m3 i env env' → IsCell m c v → (p : Frm) → FrameIs m (frame.Return text input) p → TaskIs m3 (task.Definition text env' header.None) (given p v)
+return-given m m1 m2 m3 text empty env env' input c i v n n1 n2 z l g l2 h (let_rest d e s) k = absurd k
+return-given m m1 m2 m3 text empty env env' input c i v n n1 n2 z l g l2 h (def_rest d e y) k = absurd k
+return-given m m1 m2 m3 text empty env env' input c i v n n1 n2 z l g l2 h (return_rest d s) k =
+    (k.0, l2 s (v ∷ []) (g s (input-kept m m1 input s n k.1)) (chain-kept m1 m2 env (v ∷ []) n1 (l v [] h z)), tt)
 
-pub is_out : (P : Prog) (s : State) (F i : ℕ) (X : Outcome) → F ≤ i → IsFit s → state_run P s (F - i) ≡ X → Ended X None
-is_out P s F i X le fit inv =
-    let z : F - i ≡ 0 = omega arith in
-    sym (rw z at inv) ∙ ap (resumed P s.env (reverse s.frames)) (run_zero P (env_of s.env) (plain_comp s.node.now) fit.node) ∙ resumed-out P s.env (reverse s.frames)
+-- ---- the runs of a header's computations
 
--- a function's run is that of its body on the arguments
-pub code_run-is : (P : Prog) (k fuel : ℕ) (f : Fn) (vs : List Value) → fun_at P k ≡ Some f → code_run P k fuel (map plain_value vs) v_unit ≡ text_run P fuel (env_of vs) f.body
-unfolding text_run
-code_run-is P k fuel f vs e = ap (λ o. if_there o (λ f. text_run P fuel (env_of vs) f.body) (Stuck 0)) e
+pub g-given : (s : State) (m : Memory) (text f_text : _) (env env' : Chain) (c i : Cell) (h : Hdr) (v t : Val) (gs : List Frm) → Keeps m s.memory → Links m s.memory c env env' → HeaderIs m (header.Bind f_text text env) h → IsCell m c v → IsCell m i t → FramesAre m (reverse s.frames) gs
+    → s.task ≡ task.Text text env' (Some i) → TurnIs s (Ok None) (g_turn h v t gs)
+g-given s m text f_text env env' c i no_header v t gs n l k h j fs q = absurd k
+g-given s m text f_text env env' c i (lift_header d e) v t gs n l k h j fs q = absurd k
+g-given s m text f_text env env' c i (bind_header d1 d2 e) v t gs n l k h j fs q =
+    (subst (λ x. TaskIs s.memory x (run_text d2 (v ∷ e) t)) (sym q) (k.1, l v e h k.2, value-kept m s.memory i t n j), frames-kept m s.memory (reverse s.frames) gs n fs)
+
+-- ---- definitions' texts
+
+module _ (P : Prog) where
+  -- a term's fault, where the text's unit takes the term's value
+  pub def-stop : (s : State) (r : Result (Option Cell) Stop) (x : Stop) (text d : Dm) (e : Env) (h : Hdr) (fs : List Frm) (g : Got) (k : Val → Turn) → text ≡ d → def_turn P d e h fs ≡ with_got g k → r ≡ Err x → Gives s.memory (Err x) g → TurnIs s r (def_turn P text e h fs)
+  def-stop s r x text d e h fs g k q p i n = subst (TurnIs s r) (sym (ap (λ d. def_turn P d e h fs) q ∙ p)) (stop-turn s r x g k i n)
+
+  -- the side that a test takes
+  pub def-side : (s : State) (test : Bool) (d1 d2 : Dm) (v : Val) (e : Env) (h : Hdr) (fs : List Frm) → test ≡ is_true v → StateIs s (run_def (if test then d1 else d2) e h) fs → TurnIs s (Ok None) (next (run_def (if is_true v then d1 else d2) e h) fs)
+  def-side s test d1 d2 v e h fs q k = subst (λ b. StateIs s (run_def (if b then d1 else d2) e h) fs) q k
+
+-- ---- core text
+
+-- an environment with the input for one more variable
+pub given-linked : (m m1 m2 : Memory) (i : Cell) (env inner : Chain) (input : Option Cell) (s : Val) (e : Env) → Keeps m m1 → ((v : Val) → InputIs m input v → IsCell m1 i v) → Links m1 m2 i env inner → InputIs m input s → IsChain m env e → IsChain m2 inner (s ∷ e)
+given-linked m m1 m2 i env inner input s e n g l k c = l s e (g s k) (chain-kept m m1 env e n c)
+
+-- the texts of effects and lifts
+pub bind-is : (P : Prog) (E : ℕ) (d : Dm) → Some d ≡ option_map (λ x. x.bind) (effect_at P E) → d ≡ bind_text P E
+bind-is P E d = go (effect_at P E)
+  where
+    go : (o : Option EffDef) → Some d ≡ option_map (λ x. x.bind) o → d ≡ if_there o (λ x. x.bind) (d_ret t_unit)
+    go None q = cc
+    go (Some x) q = cc
+
+pub return-is : (P : Prog) (E : ℕ) (d : Dm) → Some d ≡ option_map (λ x. x.ret) (effect_at P E) → d ≡ return_text P E
+return-is P E d = go (effect_at P E)
+  where
+    go : (o : Option EffDef) → Some d ≡ option_map (λ x. x.ret) o → d ≡ if_there o (λ x. x.ret) (d_ret t_unit)
+    go None q = cc
+    go (Some x) q = cc
+
+pub lift-is : (P : Prog) (n : ℕ) (d : Dm) → Some d ≡ option_map (λ x. x.text) (lift_at P n) → d ≡ lift_text P n
+lift-is P n d = go (lift_at P n)
+  where
+    go : (o : Option LftDef) → Some d ≡ option_map (λ x. x.text) o → d ≡ if_there o (λ x. x.text) (d_ret t_unit)
+    go None q = cc
+    go (Some x) q = cc
+
+-- the effects and lifts of code are there
+get-there : {X Y : Type 0} (xs : List X) (i : ℕ) (f : X → Y) → IsTrue (nat_lt i (length xs)) → None ≡ option_map f (slice_get xs i) → ⊥
+get-there {X} xs i f h q = go xs i (ltb-true i (length xs) h) q
+  where
+    go : (xs : List X) (i : ℕ) → i < length xs → None ≡ option_map f (slice_get xs i) → ⊥
+    go [] i lt q = omega (arith, lt)
+    go (x ∷ xs) zero lt q = cc
+    go (x ∷ xs) (suc i) lt q = go xs i (omega (arith, lt)) q
+
+pub bind-there : (P : Prog) (E : ℕ) (x : List ℕ) (c1 c2 : Cm) → IsCode P (c_bind E x c1 c2) → None ≡ option_map (λ x. x.bind) (effect_at P E) → ⊥
+bind-there P E x c1 c2 h q = get-there P.effects E (λ x. x.bind) h.2 q
+
+pub return-there : (P : Prog) (E : ℕ) (c : Cm) → IsCode P (c_return E c) → None ≡ option_map (λ x. x.ret) (effect_at P E) → ⊥
+return-there P E c h q = get-there P.effects E (λ x. x.ret) h.1 q
+
+pub lift-there : (P : Prog) (n : ℕ) (c : Cm) → IsCode P (c_lift n c) → None ≡ option_map (λ x. x.text) (lift_at P n) → ⊥
+lift-there P n c h q = get-there P.lifts n (λ x. x.text) h.1 q
+
+-- what a return holds is code too
+pub return-part : (P : Prog) (E : ℕ) (c : Cm) → IsCode P (c_return E c) → IsCode P c
+return-part P E c h = h.0

@@ -1,3 +1,7 @@
-pub mod First
-pub mod Answering
+pub mod Memories
+pub mod Stops
+pub mod Turns
+pub mod Arms
 pub mod States
+pub mod CodeRuns
+pub mod Answering

@@ -1,48 +1,66 @@
--- What is still to be done in a state of the machine.
-use Rattle.std.specs.Prelude.{◌≡◌, ℕ, ◌≤◌, true, List, [], ◌∷◌, length, map, reverse, take, Option, Some, None, ⊤}
-use Rattle.fst_base.specs.declared.value.Value.{Value}
-use Rattle.fst_base.specs.Values.{v_unit, plain_value}
-use Rattle.fst_terms.specs.Meaning.{Env}
-use Rattle.fst_program.specs.Texts.{Cm, Prog}
-use Rattle.fst_program.specs.Plain.{plain_comp}
-use Rattle.fst_program.specs.Runs.{Outcome, Done, Out, then_do, ev}
-use Rattle.fst_machine.specs.First.{TextFirst}
-use Rattle.fst_machine.specs.declared.state.Frame.{Frame}
+-- The plain state that a machine's state stands for.
+use Rattle.std.specs.Prelude.{◌≡◌, List, [], ◌∷◌, reverse, Option, Some, None, Result, Ok, Err, ⊤}
+use Rattle.fst_program.specs.Plain.{plain_comp, plain_dm}
+use Rattle.fst_program.specs.Runs.{Outcome, Done, Out, Wide, Stuck}
+use Rattle.fst_program.specs.Texts.{Prog}
+use Rattle.fst_cells.specs.declared.cell.Cell.{Cell}
+use Rattle.fst_machine.specs.declared.memory.Memory.{Memory}
+use Rattle.fst_machine.specs.declared.stop.Stop.{Stop}
+use Rattle.fst_machine.specs.declared.stop.Stop.TheVariants as stop
+use Rattle.fst_machine.specs.declared.state.Header as H
+use Rattle.fst_machine.specs.declared.state.Header.TheVariants as header
+use Rattle.fst_machine.specs.declared.state.Task as T
+use Rattle.fst_machine.specs.declared.state.Task.TheVariants as task
+use Rattle.fst_machine.specs.declared.state.Frame as F
+use Rattle.fst_machine.specs.declared.state.Frame.TheVariants as frame
 use Rattle.fst_machine.specs.declared.state.State.{State}
+use Rattle.fst_machine.specs.Memories.{IsCell, InputIs, IsChain}
+use Rattle.fst_machine.specs.Turns.{Hdr, no_header, lift_header, bind_header, Tsk, run_text, run_def, Frm, let_rest, def_rest, return_rest, Turn, next, over, stopped, CodeTask, CodeFrames}
 
--- the environment of these values, of which the last one is that of the last variable
-abbrev pub env_of : List Value → Env
-env_of vs = reverse (map plain_value vs)
+abbrev pub HeaderIs : Memory → H.Header → Hdr → Type 0
+HeaderIs m header.None no_header = ⊤
+HeaderIs m (header.Lift c env) (lift_header d e) = (plain_comp c.now ≡ d) × IsChain m env e
+HeaderIs m (header.Bind c1 c2 env) (bind_header d1 d2 e) = (plain_comp c1.now ≡ d1) × (plain_comp c2.now ≡ d2) × IsChain m env e
+HeaderIs m _ _ = ⊥
 
--- a bounded run of text without input
-unfoldable pub text_run : Prog → (fuel : ℕ) → Env → Cm → Outcome
-text_run P fuel e c = ev (λ k vs. v_unit) P fuel 0 true e v_unit c
+abbrev pub TaskIs : Memory → T.Task → Tsk → Type 0
+TaskIs m (task.Text c env input) (run_text d e s) = (plain_comp c.now ≡ d) × IsChain m env e × InputIs m input s
+TaskIs m (task.Definition c env h) (run_def d e k) = (plain_dm c.now ≡ d) × IsChain m env e × HeaderIs m h k
+TaskIs m _ _ = ⊥
 
--- what becomes of the outcome of a text, where the rests of lets wait for its value, the innermost first; a rest has the first of the
--- variables, and the value
-abbrev pub resumed : Prog → List Value → List Frame → Outcome → Outcome
-resumed P vs [] o = o
-resumed P vs (f ∷ fs) o = resumed P (take f.depth vs) fs (then_do o (λ v l. text_run P l (v ∷ env_of (take f.depth vs)) (plain_comp f.next.now)))
+abbrev pub FrameIs : Memory → F.Frame → Frm → Type 0
+FrameIs m (frame.Let c env input) (let_rest d e s) = (plain_comp c.now ≡ d) × IsChain m env e × InputIs m input s
+FrameIs m (frame.Definition c env h) (def_rest d e k) = (plain_dm c.now ≡ d) × IsChain m env e × HeaderIs m h k
+FrameIs m (frame.Return c input) (return_rest d s) = (plain_dm c.now ≡ d) × InputIs m input s
+FrameIs m _ _ = ⊥
 
--- the outcome of a state with this much fuel
-abbrev pub state_run : Prog → State → (fuel : ℕ) → Outcome
-state_run P s l = resumed P s.env (reverse s.frames) (text_run P l (env_of s.env) (plain_comp s.node.now))
+-- these frames stand for those, in the same order
+abbrev pub FramesAre : Memory → List F.Frame → List Frm → Type 0
+FramesAre m [] [] = ⊤
+FramesAre m (f ∷ fs) (g ∷ gs) = FrameIs m f g × FramesAre m fs gs
+FramesAre m _ _ = ⊥
 
--- each rest has no more variables than there are, and no more than a rest further in
-abbrev pub Stacked : (vars : ℕ) → List Frame → Type 0
-Stacked n [] = ⊤
-Stacked n (f ∷ fs) = (f.depth ≤ n) × TextFirst (plain_comp f.next.now) × Stacked f.depth fs
+abbrev pub StateIs : State → Tsk → List Frm → Type 0
+StateIs s t fs = TaskIs s.memory s.task t × FramesAre s.memory (reverse s.frames) fs
 
-pub record IsFit (s : State) : Type 0 where
-  pub node : TextFirst (plain_comp s.node.now)
-  pub frames : Stacked (length s.env) (reverse s.frames)
+-- what a unit leads to: the next state, the run's value, or its fault; want of memory may come in place of each
+abbrev pub TurnIs : State → Result (Option Cell) Stop → Turn → Type 0
+TurnIs s (Ok None) (next t fs) = StateIs s t fs
+TurnIs s (Ok (Some c)) (over v) = IsCell s.memory c v
+TurnIs s (Err stop.PastRange) (stopped Wide) = ⊤
+TurnIs s (Err (stop.Stuck p)) (stopped (Stuck at)) = p.at ≡ at
+TurnIs s (Err stop.NoMemory) t = ⊤
+TurnIs s _ _ = ⊥
 
--- a step of a run, which gives this outcome on this much fuel, leads to the state t, or ends it with a value
-abbrev pub Leads : (Prog → (fuel : ℕ) → Outcome) → State → Option Value → Type 0
-Leads run t None = IsFit t × ((P : Prog) (l : ℕ) → state_run P t l ≡ run P l)
-Leads run t (Some v) = (P : Prog) (l : ℕ) → run P l ≡ Done (plain_value v) l
+-- what the state stands for is code
+abbrev pub StateIsFit : Prog → State → Type 0
+StateIsFit P s = (t : Tsk) × ((fs : List Frm) × (StateIs s t fs × CodeTask P t × CodeFrames P fs))
 
--- the run is done with this value, or out of fuel
-abbrev pub Ended : Outcome → Option Value → Type 0
-Ended o None = o ≡ Out
-Ended o (Some v) = (left : ℕ) × (o ≡ Done (plain_value v) left)
+-- what a run of the machine gives: the value, no more than out of fuel, or its fault; want of memory may come in place of each
+abbrev pub RunIs : Memory → Result (Option Cell) Stop → Outcome → Type 0
+RunIs m (Ok None) Out = ⊤
+RunIs m (Ok (Some c)) (Done v left) = IsCell m c v
+RunIs m (Err stop.PastRange) Wide = ⊤
+RunIs m (Err (stop.Stuck p)) (Stuck at) = p.at ≡ at
+RunIs m (Err stop.NoMemory) o = ⊤
+RunIs m _ _ = ⊥

@@ -1,80 +1,95 @@
-ghost use Rattle.std.specs.Prelude.{◌≡◌, true, get_or, map, reverse, IfOk};
+ghost use Rattle.std.specs.Prelude.{◌≡◌, true, Bool, if◌then◌else◌};
 ghost use Rattle.fst_base.specs.Primitives.{is_true};
-ghost use Rattle.fst_base.specs.Values.{plain_value};
-ghost use Rattle.fst_terms.specs.Meaning.{lookup};
+ghost use Rattle.fst_base.specs.Values.{Val};
+ghost use Rattle.fst_terms.specs.Meaning.{Env};
 ghost use Rattle.fst_terms.specs.Terms.{plain_term, plain_terms};
-ghost use Rattle.fst_program.specs.Evaluation.{eval, got};
-ghost use Rattle.fst_machine.specs.First.{TermFirst, equation};
-ghost use Rattle.fst_machine.specs.States.{env_of};
+ghost use Rattle.fst_program.specs.Evaluation.{eval, evals, got_stuck, limit};
+ghost use Rattle.fst_machine.specs.Memories.{Keeps, IsCell, IsChain};
+ghost use Rattle.fst_machine.specs.Stops.{Gives, ChainGives, OperandsGive};
+ghost use Rattle.fst_cells.specs.Made.{Made};
+ghost use Rattle.fst_machine.specs.declared.memory.Memory.{Memory as M};
 
-use fst_base::{OutOfMemory, Value};
+use crate::memory::{Chain, Memory};
+use crate::patterns::is_true_node;
+use crate::stop::Stop;
+use fst_base::Pos;
+use fst_cells::{Cell, Node, Operands};
+use fst_prims::PrimFault;
 use fst_terms::Term;
-use std::alloc::Global;
 
-/// The value of a term, where the last of `env` is that of the last variable.
+/// The value of a term.
 #[cycle(eval)]
 #[tactic(auto, using(fst_terms::proofs::PlainLemmas::plain_variants))]
-pub(crate) fn eval(alloc: Global, term: &Term, env: &[Value]) -> Result<Value, OutOfMemory>
-    requires { TermFirst (plain_term term.now) }
-    ensures { IfOk result (λ v. eval true (plain_term term.now) (env_of env.now) ≡ got (plain_value v)) }
+pub(crate) fn eval(memory: &mut Memory, term: &Term, env: Chain) -> Result<Cell, Stop>
+    ensures value { (e : Env) → IsChain memory.old env e → Gives memory.new result (eval true (plain_term term.now) e) }
+    ensures kept { Keeps memory.old memory.new }
 {
     match term {
-        Term::Var(index) => look(alloc, env, *index),
-        Term::Int(number) => Ok(Value::Int(*number)),
-        Term::Bool(truth) => Ok(Value::Bool(*truth)),
-        Term::Unit => Ok(Value::Unit),
-        Term::Prim(_, _, sides, _) => equal(alloc, sides.as_slice(), env),
+        Term::Var(index) => Ok(memory.given(memory.look(env, *index))?),
+        Term::Int(number) => Ok(memory.add(Node::Int(*number))?),
+        Term::Bool(truth) => Ok(memory.add(Node::Bool(*truth))?),
+        Term::Unit => Ok(memory.add(Node::Unit)?),
         Term::If(test, left, right) => {
-            if is_true(&eval(alloc, test.get(), env)?) {
-                eval(alloc, left.get(), env)
+            let test = eval(memory, test.get(), env)?;
+            if is_true(memory, test) {
+                eval(memory, left.get(), env)
             } else {
-                eval(alloc, right.get(), env)
+                eval(memory, right.get(), env)
             }
         }
-        Term::App(_, _, _) => unreachable!(),
-        Term::Let(_, _, _) => unreachable!(),
+        Term::Prim(op, sort, args, at) => {
+            let operands = operands(memory, args.as_slice(), env)?;
+            placed(memory.apply(*op, operands, sort), *at)
+        }
+        Term::App(_, _, _) => Err(Stop::Stuck(Pos { at: 0 })),
+        Term::Let(_, _, _) => Err(Stop::Stuck(Pos { at: 0 })),
     }
 }
 
-/// Whether the two sides of an equation have the same value.
+/// The values of a primitive's arguments.
 #[cycle(eval)]
-fn equal(alloc: Global, sides: &[Term], env: &[Value]) -> Result<Value, OutOfMemory>
-    requires { TermFirst (equation (plain_terms sides.now)) }
-    ensures { IfOk result (λ v. eval true (equation (plain_terms sides.now)) (env_of env.now) ≡ got (plain_value v)) }
+fn operands(memory: &mut Memory, args: &[Term], env: Chain) -> Result<Operands, Stop>
+    ensures value { (e : Env) → IsChain memory.old env e → OperandsGive memory.new result (evals true (plain_terms args.now) e) }
+    ensures kept { Keeps memory.old memory.new }
 {
-    let left = eval(alloc, &sides[0], env)?;
-    let (left, right) = both(left, eval(alloc, &sides[1], env))?;
-    Ok(Value::Bool(left.same(&right)))
-}
-
-/// The value of a variable; past the first one it is unit.
-fn look(alloc: Global, env: &[Value], index: u32) -> Result<Value, OutOfMemory>
-    ensures { IfOk result (λ v. lookup (env_of env.now) index ≡ plain_value v) }
-{
-    let index = index as usize;
-    if index < env.len() {
-        let value = env[env.len() - 1 - index].copy(alloc)?;
-        return Ok(value);
+    let mut operands = Operands::none();
+    for arg in args {
+        let cell = eval(memory, arg, env)?;
+        operands = operands.with(cell);
     }
-    Ok(Value::Unit)
+    Ok(operands)
 }
 
-pub(crate) fn is_true(value: &Value) -> bool
-    ensures { result ≡ is_true (plain_value value.now) }
+/// The answer of a primitive that stands at this place.
+fn placed(answer: Result<Cell, PrimFault>, at: Pos) -> Result<Cell, Stop>
+    ensures { (m : M) (v : Val) (z : Bool) → Made m.store v z answer → Gives m result (if z then got_stuck at.at else limit true v) }
 {
-    match value {
-        Value::Bool(truth) => *truth,
-        _ => false,
+    match answer {
+        Ok(cell) => Ok(cell),
+        Err(PrimFault::PastRange) => Err(Stop::PastRange),
+        Err(PrimFault::ZeroDivisor) => Err(Stop::Stuck(at)),
+        Err(PrimFault::NoMemory) => Err(Stop::NoMemory),
     }
 }
 
-/// The first with what the second gives. Where the second wants memory the first is let go here, so that the caller owns nothing
-/// at its exit.
-fn both<A: Drop, B: Drop>(first: A, second: Result<B, OutOfMemory>) -> Result<(A, B), OutOfMemory>
-    ensures { IfOk result (λ pair. (pair.0 ≡ first) × (second ≡ Ok pair.1)) }
+pub(crate) fn is_true(memory: &Memory, cell: Cell) -> bool
+    ensures { (v : Val) → IsCell memory.now cell v → result ≡ is_true v }
 {
-    match second {
-        Ok(second) => Ok((first, second)),
-        Err(fault) => Err(fault),
+    let Some(node) = memory.node(cell) else {
+        return false;
+    };
+    is_true_node(node)
+}
+
+/// The environment of these arguments, the last one first.
+pub(crate) fn arguments(memory: &mut Memory, args: &[Term], env: Chain) -> Result<Chain, Stop>
+    ensures chain { (e : Env) → IsChain memory.old env e → ChainGives memory.new result (evals true (plain_terms args.now) e) }
+    ensures kept { Keeps memory.old memory.new }
+{
+    let mut inner = Chain::empty();
+    for arg in args {
+        let cell = eval(memory, arg, env)?;
+        inner = memory.link(cell, inner)?;
     }
+    Ok(inner)
 }

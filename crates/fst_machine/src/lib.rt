@@ -1,12 +1,12 @@
 //! The machine that runs code.
 #![tactic(auto)]
 
-mod answer;
 mod eval;
 mod machine;
+mod memory;
+mod patterns;
 mod state;
-#[cfg(test)]
-mod tests;
+mod stop;
+mod texts;
 
-pub use answer::Answer;
-pub use machine::Machine;
+pub use machine::{Answer, Machine, is_ready};

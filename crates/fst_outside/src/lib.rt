@@ -11,8 +11,6 @@ mod shelf;
 mod sink;
 mod steady_shelf;
 mod steady_sink;
-#[cfg(test)]
-mod tests;
 
 pub use fault::{FetchFault, PutFault};
 pub use file::File;

@@ -63,7 +63,7 @@ impl MemoryShelf {
 impl Shelf for MemoryShelf {
     ghost told = { λ s name. bytes_of s.files name };
 
-    ghost bytes_read = { λ _. 0 };
+    ghost bytes_read = { λ _. [] };
 
     ghost fetched = { λ s. Some s.fetched };
 

@@ -47,7 +47,7 @@ impl SteadyShelf {
 impl Shelf for SteadyShelf {
     ghost told = { λ s name. Some (bytes_or_none s.files name) };
 
-    ghost bytes_read = { λ _. 0 };
+    ghost bytes_read = { λ _. [] };
 
     ghost fetched = { λ s. Some s.fetched };
 

@@ -2,4 +2,3 @@ pub mod TableLemmas
 pub mod RangeLemmas
 pub mod FitLemmas
 pub mod AnswerLemmas
-pub mod Made

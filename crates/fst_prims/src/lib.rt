@@ -9,8 +9,6 @@ mod fault;
 mod numbers;
 mod selectors;
 mod table;
-#[cfg(test)]
-mod tests;
 
 pub use fault::PrimFault;
 pub use table::{PRIMS, Prims, Row, Shape, table_of_prims};

@@ -1,24 +1,22 @@
 -- A result has its text's sort.
-use Rattle.std.proofs.Common.{◌≡◌, ℕ, zero, suc, Bool, true, false, not, ◌&&◌, if◌then◌else◌, List, [], ◌∷◌, ◌++◌, map, reverse, get_or, slice_get, Option, Some, None, IsTrue, refl, sym, ap, ap₂, ◌∙◌, subst}
+use Rattle.std.proofs.Common.{◌≡◌, ℕ, zero, suc, Bool, true, false, not, ◌&&◌, if◌then◌else◌, List, [], ◌∷◌, ◌++◌, map, slice_get, Option, Some, None, IsTrue, refl, sym, ap, ap₂, ◌∙◌, subst}
 use Rattle.std.specs.Prelude.{⊤}
 use Rattle.fst_base.specs.declared.op.Op.{Op}
-use Rattle.fst_base.specs.Sorts.{Srt, s_unit, s_bool, s_int, s_a, s_b, s_pair, s_opt, s_list, s_either, put_sorts}
-use Rattle.fst_base.specs.Values.{Val, v_unit, v_bool, v_int, v_pair, v_none, v_some, v_nil, v_cons, v_inl, v_inr, Has, HasSorts, default_of}
+use Rattle.fst_base.specs.Sorts.{Srt, s_bool, s_pair, s_opt, s_list, s_either, put_sorts}
+use Rattle.fst_base.specs.Values.{Val, v_unit, v_bool, v_int, v_pair, v_none, v_some, v_nil, v_cons, v_inl, v_inr, Has, HasSorts}
 use Rattle.fst_base.specs.Primitives.{prim, is_true, is_wide, divides_by_zero}
 use Rattle.fst_base.specs.Rows.{Fits, row_args, row_result, is_inner}
-use Rattle.fst_base.proofs.RowLemmas.{prim-has, put_sorts-twice, put_sorts-same, put_sorts-without_b, put_sorts-closed}
+use Rattle.fst_base.proofs.RowLemmas.{prim-has, put_sorts-twice}
 use Rattle.fst_terms.specs.Terms.{Tm, Tms, t_var, t_int, t_bool, t_unit, t_prim, t_if, t_app, t_let, t_end, t_more}
-use Rattle.fst_terms.specs.Meaning.{Env, Meaning, value, lookup}
+use Rattle.fst_terms.specs.Meaning.{Env, lookup}
 use Rattle.fst_terms.specs.Sorted.{TmSorted, TmsSorted, is_run, are_run}
 use Rattle.fst_program.specs.declared.comp.Con.{Con}
 use Rattle.fst_program.specs.declared.comp.Con.TheVariants as con
-use Rattle.fst_program.specs.declared.effect.Effect.{Effect}
-use Rattle.fst_program.specs.declared.effect.Effect.TheVariants as effect
-use Rattle.fst_program.specs.Texts.{Dm, DmArms, d_ret, d_let, d_if, d_match, d_run_f, d_run_g, d_end, d_arm, Cm, CmArms, c_ret, c_let, c_bind, c_ghost, c_assert, c_if, c_match, c_call, c_reify, c_reflect, c_return, c_lift, c_end, c_arm, Prm, EffDef, LftDef, Fn, Prog, if_there, fun_at, effect_at, params_of, bind_text, return_text, lift_text, is_ghost, is_user, result_at, result_sort}
+use Rattle.fst_program.specs.Texts.{Dm, DmArms, d_ret, d_let, d_if, d_match, d_run_f, d_run_g, d_end, d_arm, Prm, Prog, if_there}
 use Rattle.fst_program.specs.Evaluation.{Got, got, got_wide, got_stuck, Gots, gots, gots_wide, gots_stuck, got_then, gots_then, gots_more, limit, apply, eval, evals, arguments}
-use Rattle.fst_program.specs.Runs.{Outcome, Done, Out, Wide, Stuck, GhostOut, spend, then_do, with_value, with_values, hide, parts, if_fits, Run, dm, dm_arm, no_f, no_g, input_to, Calls, Ghosts, text, arm, calls, ghost_run, ev}
+use Rattle.fst_program.specs.Runs.{Outcome, Done, Out, Wide, Stuck, GhostOut, spend, then_do, with_value, with_values, hide, parts, if_fits, Run, dm, dm_arm}
 use Rattle.fst_program.specs.Paths.{part_sorts}
-use Rattle.fst_program.specs.Sorted.{ConOf, place_of, FSorts, GSorts, Applies, RunSorted, DmSorted, DmArmsSorted, EffectSorted, LiftSorted, result_in, CmSorted, ArmsSorted, body_sorts, FunSorted, IsSorted}
+use Rattle.fst_program.specs.Sorted.{ConOf, FSorts, GSorts, Applies, RunSorted, DmSorted, DmArmsSorted}
 
 -- ---- what terms give
 

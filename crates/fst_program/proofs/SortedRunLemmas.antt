@@ -1,6 +1,5 @@
 -- A result of core text has its text's sort.
-use Rattle.std.proofs.Common.{◌≡◌, ℕ, zero, suc, Bool, true, false, not, ◌&&◌, if◌then◌else◌, List, [], ◌∷◌, ◌++◌, map, reverse, slice_get, Option, Some, None, IsTrue, refl, sym, ap, ap₂, ◌∙◌, subst}
-use Rattle.std.specs.Prelude.{⊤}
+use Rattle.std.proofs.Common.{◌≡◌, ℕ, zero, suc, Bool, false, not, ◌&&◌, List, [], ◌∷◌, ◌++◌, map, reverse, slice_get, Option, Some, None, IsTrue, refl, sym, ap₂, ◌∙◌, subst}
 use mathlib.Core.List.{reverse_aux}
 use Rattle.fst_base.specs.Sorts.{Srt, s_bool, s_a, s_b, put_sorts}
 use Rattle.fst_base.specs.Values.{Val, v_unit, Has, HasSorts}
@@ -8,12 +7,12 @@ use Rattle.fst_base.specs.Primitives.{is_true}
 use Rattle.fst_base.proofs.RowLemmas.{put_sorts-twice, put_sorts-same, put_sorts-without_b, put_sorts-closed}
 use Rattle.fst_terms.specs.Terms.{Tm, Tms, t_unit}
 use Rattle.fst_terms.specs.Meaning.{Env, Meaning, value}
-use Rattle.fst_terms.specs.Sorted.{TmSorted, TmsSorted, is_run, are_run}
+use Rattle.fst_terms.specs.Sorted.{TmsSorted, are_run}
 use Rattle.fst_program.specs.declared.effect.Effect.{Effect}
 use Rattle.fst_program.specs.declared.effect.Effect.TheVariants as effect
-use Rattle.fst_program.specs.Texts.{Dm, d_ret, Cm, CmArms, c_ret, c_let, c_bind, c_ghost, c_assert, c_if, c_match, c_call, c_reify, c_reflect, c_return, c_lift, c_end, c_arm, Prm, EffDef, LftDef, Fn, Prog, if_there, fun_at, effect_at, params_of, bind_text, return_text, lift_text, is_ghost, is_user, result_at}
-use Rattle.fst_program.specs.Evaluation.{Got, Gots, eval, arguments}
-use Rattle.fst_program.specs.Runs.{Outcome, Done, Out, Wide, Stuck, GhostOut, then_do, spend, with_value, with_values, parts, if_fits, Run, dm, no_f, no_g, input_to, Calls, Ghosts, text, arm, calls, ghost_run, ev}
+use Rattle.fst_program.specs.Texts.{d_ret, Cm, CmArms, c_ret, c_let, c_bind, c_ghost, c_assert, c_if, c_match, c_call, c_reify, c_reflect, c_return, c_lift, c_end, c_arm, Prm, EffDef, LftDef, Fn, Prog, if_there, fun_at, effect_at, params_of, bind_text, return_text, is_ghost, result_at}
+use Rattle.fst_program.specs.Evaluation.{eval, arguments}
+use Rattle.fst_program.specs.Runs.{parts, Run, dm, no_f, no_g, input_to, Calls, Ghosts, text, arm, calls, ghost_run, ev}
 use Rattle.fst_program.specs.Paths.{part_sorts}
 use Rattle.fst_program.specs.Sorted.{place_of, Applies, RunSorted, LiftSorted, InputHas, result_in, CmSorted, ArmsSorted, param_sorts, IsSorted}
 use Rattle.fst_program.proofs.SortedLemmas.{GotHas, GotsHave, eval-has, arguments-have, OutcomeHas, spend-has, then-has, value-has, values-have, if-has, hide-has, fits-has, bound-parts, append-have, dm-has}

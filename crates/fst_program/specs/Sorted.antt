@@ -1,14 +1,14 @@
 -- Well-sorted definition text, core text and programs.
-use Rattle.std.specs.Prelude.{◌≡◌, ℕ, true, false, List, [], ◌∷◌, ◌++◌, Option, Some, None, map, reverse, length, slice_get, IsTrue, ⊤}
+use Rattle.std.specs.Prelude.{◌≡◌, ℕ, false, List, [], ◌∷◌, ◌++◌, Option, Some, None, map, reverse, length, slice_get, IsTrue, ⊤}
 use Rattle.fst_base.specs.Sorts.{Srt, s_bool, s_int, s_a, s_b, s_opt, s_list, s_pair, s_either, put_sorts, holds_a, holds_b}
 use Rattle.fst_base.specs.Values.{Val, Has}
-use Rattle.fst_terms.specs.Terms.{Tm, Tms}
+use Rattle.fst_terms.specs.Terms.{Tm}
 use Rattle.fst_terms.specs.Sorted.{TmSorted, TmsSorted, is_run, are_run}
 use Rattle.fst_program.specs.declared.comp.Con.{Con}
 use Rattle.fst_program.specs.declared.comp.Con.TheVariants as con
 use Rattle.fst_program.specs.declared.effect.Effect.{Effect}
 use Rattle.fst_program.specs.declared.effect.Effect.TheVariants as effect
-use Rattle.fst_program.specs.Texts.{Dm, DmArms, d_ret, d_let, d_if, d_match, d_run_f, d_run_g, d_end, d_arm, Cm, CmArms, c_ret, c_let, c_bind, c_ghost, c_assert, c_if, c_match, c_call, c_reify, c_reflect, c_return, c_lift, c_end, c_arm, Prm, EffDef, LftDef, Fn, Prog, if_there, fun_at, effect_at, is_user, result_at, result_sort}
+use Rattle.fst_program.specs.Texts.{Dm, DmArms, d_ret, d_let, d_if, d_match, d_run_f, d_run_g, d_end, d_arm, Cm, CmArms, c_ret, c_let, c_bind, c_ghost, c_assert, c_if, c_match, c_call, c_reify, c_reflect, c_return, c_lift, c_end, c_arm, Prm, EffDef, LftDef, Fn, Prog, if_there, fun_at, effect_at, result_at, result_sort}
 use Rattle.fst_program.specs.Paths.{part_sorts}
 
 -- the constructor is one of the sort

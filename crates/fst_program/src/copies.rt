@@ -1,5 +1,5 @@
 //! Copies of the lists and options that texts and headers hold.
-ghost use Rattle.std.specs.Prelude.{◌≡◌, IfOk};
+ghost use Rattle.std.specs.Prelude.{◌≡◌, Ok, IfOk};
 
 use fst_base::{Name, OutOfMemory, Seq};
 use fst_terms::{Formula, Term};
@@ -34,19 +34,5 @@ pub(crate) fn copy_formula(
     match formula {
         Some(formula) => Ok(Some(formula.copy(alloc)?)),
         None => Ok(None),
-    }
-}
-
-/// The first with what the second gives. Where the second wants memory the first is let go here, so that the caller owns nothing
-/// at its exit.
-pub fn both<A: Drop, B: Drop>(
-    first: A,
-    second: Result<B, OutOfMemory>,
-) -> Result<(A, B), OutOfMemory>
-    ensures { IfOk result (λ pair. (pair.0 ≡ first) × (second ≡ Ok pair.1)) }
-{
-    match second {
-        Ok(second) => Ok((first, second)),
-        Err(fault) => Err(fault),
     }
 }

@@ -5,18 +5,18 @@ use Rattle.fst_grammar.specs.Claims as C
 use Rattle.fst_grammar.proofs.Claims as G
 use Rattle.fst_grammar.proofs.Sound.{rest}
 use Rattle.fst_grammar.specs.Reading.{Outcome}
-use Rattle.fst_reader.specs.declared.word.Word.{Word}
-use Rattle.fst_reader.specs.declared.decl.Decl.{Decl}
-use Rattle.fst_reader.specs.Tokens.{Token, alphabet}
-use Rattle.fst_reader.specs.Program.{Spells, FaultAt, first_place}
+use Rattle.fst_trees.specs.declared.word.Word.{Word}
+use Rattle.fst_trees.specs.declared.decl.Decl.{Decl}
+use Rattle.fst_syntax.specs.Tokens.{Token, alphabet}
+use Rattle.fst_syntax.specs.Program.{Spells, FaultAt, first_place}
 use Rattle.fst_reader.specs.declared.whole.Refusal.{Refusal}
 use Rattle.fst_reader.specs.declared.whole.Refusal.TheVariants as r
-use Rattle.fst_reader.specs.Productions as n
-use Rattle.fst_reader.specs.Tables.{firsts, nullable, follow, rank, top}
-use Rattle.fst_reader.specs.Reading.{reads}
-use Rattle.fst_reader.proofs.Terminals.{kinds}
-use Rattle.fst_reader.proofs.Tables.{settled}
-use Rattle.fst_reader.proofs.Samples.{sample}
+use Rattle.fst_syntax.specs.Productions as n
+use Rattle.fst_syntax.specs.Tables.{firsts, nullable, follow, rank, top}
+use Rattle.fst_syntax.specs.Reading.{reads}
+use Rattle.fst_syntax.proofs.Terminals.{kinds}
+use Rattle.fst_syntax.proofs.Tables.{settled}
+use Rattle.fst_syntax.proofs.Samples.{sample}
 
 abbrev Decls : Type 0
 Decls = List (Decl Word)

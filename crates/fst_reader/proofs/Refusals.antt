@@ -3,19 +3,19 @@ use Rattle.std.proofs.Common.{◌≡◌, ◌<◌, ◌≤◌, ◌+◌, ◌^◌, i
 use Rattle.std.proofs.lemmas.List.{take-append-drop}
 use Rattle.std.proofs.Math.Seq.{take-append-add}
 use Rattle.fst_grammar.proofs.Cuts as X
-use Rattle.fst_reader.specs.Tokens.{Token, alphabet}
-use Rattle.fst_reader.specs.Productions as n
-use Rattle.fst_reader.specs.Lexemes.{lexemes}
-use Rattle.fst_reader.specs.Limits.{see, passed, passed_behind, limit_at, limit_from, first_limit}
-use Rattle.fst_reader.specs.Program.{FaultAt, Begins, IsRefused, AtLimit, Rising, place, first_place}
+use Rattle.fst_syntax.specs.Tokens.{Token, alphabet}
+use Rattle.fst_syntax.specs.Productions as n
+use Rattle.fst_syntax.specs.Lexemes.{lexemes}
+use Rattle.fst_syntax.specs.Limits.{see, passed, passed_behind, limit_at, limit_from, first_limit}
+use Rattle.fst_syntax.specs.Program.{FaultAt, Begins, IsRefused, AtLimit, Rising, place, first_place}
 use Rattle.fst_base.specs.declared.place.Pos.{Pos}
 use Rattle.fst_base.specs.declared.rule.Rule.{Rule}
 use Rattle.fst_base.specs.declared.rule.Rule.TheVariants as rule
 use Rattle.fst_base.specs.declared.rule.Fault.{Fault}
 use Rattle.fst_base.specs.declared.rule.Fault.TheVariants as F
-use Rattle.fst_reader.specs.declared.limits.Limit.{Limit}
-use Rattle.fst_reader.specs.declared.limits.Seen.{Seen}
-use Rattle.fst_reader.proofs.Rising.{limit_stands, later, place_later}
+use Rattle.fst_syntax.specs.declared.limit.Limit.{Limit}
+use Rattle.fst_syntax.specs.declared.limit.Seen.{Seen}
+use Rattle.fst_syntax.proofs.Rising.{limit_stands, later, place_later}
 
 abbrev placed : Option Pos → ℕ
 placed None = 0

@@ -2,17 +2,16 @@
 //! proved by itself.
 
 ghost use Rattle.std.specs.Prelude.{◌≡◌, ◌<◌, ◌≤◌, [], ◌∷◌, length, OnOk};
-ghost use Rattle.fst_reader.specs.Productions as n;
-ghost use Rattle.fst_reader.specs.Reading.{Reads, reads, behind};
-ghost use Rattle.fst_reader.specs.Nests.{NestsBody};
+ghost use Rattle.fst_syntax.specs.Productions as n;
+ghost use Rattle.fst_syntax.specs.Reading.{Reads, reads, run, behind};
+ghost use Rattle.fst_syntax.specs.Tails as tails;
+ghost use Rattle.fst_syntax.specs.Nests.{NestsBody};
 
-use crate::body::{Binding, BodyTree, PartNode, PartTree};
-use crate::parts::term_part;
-use crate::pattern::{ArmTree, Pattern};
-use crate::reader::{Reader, Stop, both};
-use crate::terminal::Terminal;
-use crate::word::Word;
-use fst_base::{Box, Seq};
+use crate::parts::{named_part, reified, term_part};
+use fst_base::{Box, Seq, both};
+use fst_syntax::{Binding, Pattern, Stop, Terminal};
+use fst_term_reader::Reader;
+use fst_trees::{ArmTree, BodyTree, PartNode, PartTree, Word};
 
 /// The readers of the parts of a body.
 #[derive(Clone, Copy)]
@@ -44,7 +43,7 @@ impl<F: Fn(&mut Reader<'_>, usize) -> Result<BodyTree<Word>, Stop>> Bodies<F> {
         Ok(Box::new(reader.alloc(), body)?)
     }
 
-    #[tactic(auto, using(crate::proofs::Opens::opens))]
+    #[tactic(auto, using(fst_syntax::proofs::Opens::opens))]
     pub fn whole(&self, reader: &mut Reader<'_>) -> Result<BodyTree<Word>, Stop>
         requires nests { NestsBody self.now.room (F.pre self.now.body) (F.post self.now.body) }
         requires room { length reader.old ≤ self.now.room }
@@ -79,7 +78,7 @@ impl<F: Fn(&mut Reader<'_>, usize) -> Result<BodyTree<Word>, Stop>> Bodies<F> {
         }
     }
 
-    #[tactic(auto, using(crate::proofs::Opens::opens))]
+    #[tactic(auto, using(fst_syntax::proofs::Opens::opens))]
     fn ghost_let(&self, reader: &mut Reader<'_>) -> Result<BodyTree<Word>, Stop>
         requires nests { NestsBody self.now.room (F.pre self.now.body) (F.post self.now.body) }
         requires room { length reader.old ≤ self.now.room }
@@ -94,7 +93,7 @@ impl<F: Fn(&mut Reader<'_>, usize) -> Result<BodyTree<Word>, Stop>> Bodies<F> {
         Ok(BodyTree::GhostLet(name, sort, part, rest))
     }
 
-    #[tactic(auto, using(crate::proofs::Opens::opens))]
+    #[tactic(auto, using(fst_syntax::proofs::Opens::opens))]
     fn plain_let(&self, reader: &mut Reader<'_>) -> Result<BodyTree<Word>, Stop>
         requires nests { NestsBody self.now.room (F.pre self.now.body) (F.post self.now.body) }
         requires room { length reader.old ≤ self.now.room }
@@ -108,7 +107,7 @@ impl<F: Fn(&mut Reader<'_>, usize) -> Result<BodyTree<Word>, Stop>> Bodies<F> {
         Ok(BodyTree::Let(name, sort, part, rest))
     }
 
-    #[tactic(auto, using(crate::proofs::Opens::opens))]
+    #[tactic(auto, using(fst_syntax::proofs::Opens::opens))]
     fn assertion(&self, reader: &mut Reader<'_>) -> Result<BodyTree<Word>, Stop>
         requires nests { NestsBody self.now.room (F.pre self.now.body) (F.post self.now.body) }
         requires room { length reader.old ≤ self.now.room }
@@ -117,12 +116,22 @@ impl<F: Fn(&mut Reader<'_>, usize) -> Result<BodyTree<Word>, Stop>> Bodies<F> {
     {
         let at = reader.expect(Terminal::Assert)?;
         let form = reader.form()?;
-        reader.expect(Terminal::Semicolon)?;
-        let rest = self.boxed(reader)?;
+        let (form, rest) = both(form, self.asserted(reader))?;
         Ok(BodyTree::Assert(form, at, rest))
     }
 
-    #[tactic(auto, using(crate::proofs::Opens::opens))]
+    fn asserted(&self, reader: &mut Reader<'_>) -> Result<Box<BodyTree<Word>>, Stop>
+        requires nests { NestsBody self.now.room (F.pre self.now.body) (F.post self.now.body) }
+        requires room { length reader.old ≤ self.now.room }
+        ensures reads { Reads (run tails.asserted reader.old) result reader.new }
+        ensures shorter { OnOk result (length reader.new < length reader.old) }
+    {
+        reader.expect(Terminal::Semicolon)?;
+        let rest = self.boxed(reader)?;
+        Ok(rest)
+    }
+
+    #[tactic(auto, using(fst_syntax::proofs::Opens::opens))]
     fn branching(&self, reader: &mut Reader<'_>) -> Result<BodyTree<Word>, Stop>
         requires nests { NestsBody self.now.room (F.pre self.now.body) (F.post self.now.body) }
         requires room { length reader.old ≤ self.now.room }
@@ -131,14 +140,27 @@ impl<F: Fn(&mut Reader<'_>, usize) -> Result<BodyTree<Word>, Stop>> Bodies<F> {
     {
         reader.expect(Terminal::If)?;
         let condition = reader.term()?;
+        let (condition, (yes, no)) = both(condition, self.two_bodies(reader))?;
+        Ok(BodyTree::If(condition, yes, no))
+    }
+
+    fn two_bodies(
+        &self,
+        reader: &mut Reader<'_>,
+    ) -> Result<(Box<BodyTree<Word>>, Box<BodyTree<Word>>), Stop>
+        requires nests { NestsBody self.now.room (F.pre self.now.body) (F.post self.now.body) }
+        requires room { length reader.old ≤ self.now.room }
+        ensures reads { Reads (run tails.two_bodies reader.old) result reader.new }
+        ensures shorter { OnOk result (length reader.new < length reader.old) }
+    {
         reader.expect(Terminal::Then)?;
         let yes = self.boxed(reader)?;
         reader.expect(Terminal::Else)?;
         let no = self.boxed(reader)?;
-        Ok(BodyTree::If(condition, yes, no))
+        Ok((yes, no))
     }
 
-    #[tactic(auto, using(crate::proofs::Opens::opens))]
+    #[tactic(auto, using(fst_syntax::proofs::Opens::opens))]
     fn matching(&self, reader: &mut Reader<'_>) -> Result<BodyTree<Word>, Stop>
         requires nests { NestsBody self.now.room (F.pre self.now.body) (F.post self.now.body) }
         requires room { length reader.old ≤ self.now.room }
@@ -147,13 +169,23 @@ impl<F: Fn(&mut Reader<'_>, usize) -> Result<BodyTree<Word>, Stop>> Bodies<F> {
     {
         let at = reader.expect(Terminal::Match)?;
         let scrutinee = reader.term()?;
-        reader.expect(Terminal::With)?;
-        let arms = self.arms(reader)?;
-        reader.expect(Terminal::EndWord)?;
+        let (scrutinee, arms) = both(scrutinee, self.with_arms(reader))?;
         Ok(BodyTree::Match(scrutinee, at, arms))
     }
 
-    #[tactic(auto, using(crate::proofs::Runs::arms_opens))]
+    fn with_arms(&self, reader: &mut Reader<'_>) -> Result<Seq<ArmTree<BodyTree<Word>>>, Stop>
+        requires nests { NestsBody self.now.room (F.pre self.now.body) (F.post self.now.body) }
+        requires room { length reader.old ≤ self.now.room }
+        ensures reads { Reads (run tails.with_arms reader.old) result reader.new }
+        ensures shorter { OnOk result (length reader.new < length reader.old) }
+    {
+        reader.expect(Terminal::With)?;
+        let arms = self.arms(reader)?;
+        reader.expect(Terminal::EndWord)?;
+        Ok(arms)
+    }
+
+    #[tactic(auto, using(fst_syntax::proofs::Runs::arms_opens))]
     fn arms(&self, reader: &mut Reader<'_>) -> Result<Seq<ArmTree<BodyTree<Word>>>, Stop>
         requires nests { NestsBody self.now.room (F.pre self.now.body) (F.post self.now.body) }
         requires room { length reader.old ≤ self.now.room }
@@ -185,7 +217,7 @@ impl<F: Fn(&mut Reader<'_>, usize) -> Result<BodyTree<Word>, Stop>> Bodies<F> {
         Ok(arms)
     }
 
-    #[tactic(auto, using(crate::proofs::Opens::opens))]
+    #[tactic(auto, using(fst_syntax::proofs::Opens::opens))]
     fn arm(&self, reader: &mut Reader<'_>) -> Result<ArmTree<BodyTree<Word>>, Stop>
         requires nests { NestsBody self.now.room (F.pre self.now.body) (F.post self.now.body) }
         requires room { length reader.old ≤ self.now.room }
@@ -205,7 +237,7 @@ impl<F: Fn(&mut Reader<'_>, usize) -> Result<BodyTree<Word>, Stop>> Bodies<F> {
         })
     }
 
-    #[tactic(auto, using(crate::proofs::Opens::opens))]
+    #[tactic(auto, using(fst_syntax::proofs::Opens::opens))]
     pub fn block(&self, reader: &mut Reader<'_>) -> Result<BodyTree<Word>, Stop>
         requires nests { NestsBody self.now.room (F.pre self.now.body) (F.post self.now.body) }
         requires room { length reader.old ≤ self.now.room }
@@ -229,7 +261,7 @@ impl<F: Fn(&mut Reader<'_>, usize) -> Result<BodyTree<Word>, Stop>> Bodies<F> {
         Ok(Box::new(reader.alloc(), body)?)
     }
 
-    #[tactic(auto, using(crate::proofs::Opens::opens))]
+    #[tactic(auto, using(fst_syntax::proofs::Opens::opens))]
     fn binding(&self, reader: &mut Reader<'_>) -> Result<Binding<PartTree<Word>>, Stop>
         requires nests { NestsBody self.now.room (F.pre self.now.body) (F.post self.now.body) }
         requires room { length reader.old ≤ self.now.room }
@@ -238,13 +270,23 @@ impl<F: Fn(&mut Reader<'_>, usize) -> Result<BodyTree<Word>, Stop>> Bodies<F> {
     {
         let name = reader.binder()?;
         let sort = reader.annotation()?;
-        reader.expect(Terminal::Equal)?;
-        let part = self.part(reader)?;
-        let (part, _) = both(part, reader.expect(Terminal::In))?;
+        let (sort, part) = both(sort, self.bound_part(reader))?;
         Ok(Binding { name, sort, part })
     }
 
-    #[tactic(auto, using(crate::proofs::Opens::opens))]
+    fn bound_part(&self, reader: &mut Reader<'_>) -> Result<PartTree<Word>, Stop>
+        requires nests { NestsBody self.now.room (F.pre self.now.body) (F.post self.now.body) }
+        requires room { length reader.old ≤ self.now.room }
+        ensures reads { Reads (run tails.bound_part reader.old) result reader.new }
+        ensures shorter { OnOk result (length reader.new < length reader.old) }
+    {
+        reader.expect(Terminal::Equal)?;
+        let part = self.part(reader)?;
+        let (part, _) = both(part, reader.expect(Terminal::In))?;
+        Ok(part)
+    }
+
+    #[tactic(auto, using(fst_syntax::proofs::Opens::opens))]
     fn part(&self, reader: &mut Reader<'_>) -> Result<PartTree<Word>, Stop>
         requires nests { NestsBody self.now.room (F.pre self.now.body) (F.post self.now.body) }
         requires room { length reader.old ≤ self.now.room }
@@ -265,7 +307,7 @@ impl<F: Fn(&mut Reader<'_>, usize) -> Result<BodyTree<Word>, Stop>> Bodies<F> {
                 Ok(part)
             }
             Terminal::Name => {
-                let part = reader.named_part()?;
+                let part = named_part(reader)?;
                 Ok(part)
             }
             _ => {
@@ -275,7 +317,7 @@ impl<F: Fn(&mut Reader<'_>, usize) -> Result<BodyTree<Word>, Stop>> Bodies<F> {
         }
     }
 
-    #[tactic(auto, using(crate::proofs::Opens::opens))]
+    #[tactic(auto, using(fst_syntax::proofs::Opens::opens))]
     fn block_part(&self, reader: &mut Reader<'_>) -> Result<PartTree<Word>, Stop>
         requires nests { NestsBody self.now.room (F.pre self.now.body) (F.post self.now.body) }
         requires room { length reader.old ≤ self.now.room }
@@ -291,7 +333,7 @@ impl<F: Fn(&mut Reader<'_>, usize) -> Result<BodyTree<Word>, Stop>> Bodies<F> {
         })
     }
 
-    #[tactic(auto, using(crate::proofs::Opens::opens))]
+    #[tactic(auto, using(fst_syntax::proofs::Opens::opens))]
     fn reify(&self, reader: &mut Reader<'_>) -> Result<PartTree<Word>, Stop>
         requires nests { NestsBody self.now.room (F.pre self.now.body) (F.post self.now.body) }
         requires room { length reader.old ≤ self.now.room }
@@ -301,17 +343,15 @@ impl<F: Fn(&mut Reader<'_>, usize) -> Result<BodyTree<Word>, Stop>> Bodies<F> {
         let at = reader.expect(Terminal::Reify)?;
         let effect = reader.name()?;
         let sort = reader.sort()?;
-        let body = self.boxed_block(reader)?;
-        reader.expect(Terminal::LeftParen)?;
-        let input = reader.term()?;
-        reader.expect(Terminal::RightParen)?;
+        let (sort, body) = both(sort, self.boxed_block(reader))?;
+        let ((sort, body), input) = both((sort, body), reified(reader))?;
         Ok(PartTree {
             at,
             node: PartNode::Reify(effect, sort, body, input),
         })
     }
 
-    #[tactic(auto, using(crate::proofs::Opens::opens))]
+    #[tactic(auto, using(fst_syntax::proofs::Opens::opens))]
     fn reflect(&self, reader: &mut Reader<'_>) -> Result<PartTree<Word>, Stop>
         requires nests { NestsBody self.now.room (F.pre self.now.body) (F.post self.now.body) }
         requires room { length reader.old ≤ self.now.room }
@@ -321,14 +361,24 @@ impl<F: Fn(&mut Reader<'_>, usize) -> Result<BodyTree<Word>, Stop>> Bodies<F> {
         let at = reader.expect(Terminal::Reflect)?;
         let effect = reader.name()?;
         let sort = reader.sort()?;
-        reader.expect(Terminal::LeftParen)?;
-        let input = reader.binder()?;
-        reader.expect(Terminal::RightParen)?;
-        let body = self.boxed_block(reader)?;
+        let (sort, (input, body)) = both(sort, self.reflected(reader))?;
         Ok(PartTree {
             at,
             node: PartNode::Reflect(effect, sort, input, body),
         })
+    }
+
+    fn reflected(&self, reader: &mut Reader<'_>) -> Result<(Word, Box<BodyTree<Word>>), Stop>
+        requires nests { NestsBody self.now.room (F.pre self.now.body) (F.post self.now.body) }
+        requires room { length reader.old ≤ self.now.room }
+        ensures reads { Reads (run tails.reflected reader.old) result reader.new }
+        ensures shorter { OnOk result (length reader.new < length reader.old) }
+    {
+        reader.expect(Terminal::LeftParen)?;
+        let input = reader.binder()?;
+        reader.expect(Terminal::RightParen)?;
+        let body = self.boxed_block(reader)?;
+        Ok((input, body))
     }
 }
 

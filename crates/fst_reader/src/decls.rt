@@ -1,315 +1,228 @@
-//! Runs of a header's computations, declarations and programs.
+//! Declarations and programs.
 
-ghost use Rattle.std.specs.Prelude.{◌≡◌, ◌<◌, ◌≤◌, [], ◌∷◌, length, IfOk, OnOk};
+ghost use Rattle.std.specs.Prelude.{◌≡◌, ◌<◌, ◌≤◌, length, OnOk};
 ghost use Rattle.fst_grammar.specs.Alphabet.{next, has};
-ghost use Rattle.fst_reader.specs.Tokens.{alphabet};
-ghost use Rattle.fst_reader.specs.Productions as n;
-ghost use Rattle.fst_reader.specs.Productions.{one_or_two};
-ghost use Rattle.fst_reader.specs.Tables.{firsts};
-ghost use Rattle.fst_reader.specs.Reading.{Reads, reads, given};
+ghost use Rattle.fst_syntax.specs.Tokens.{alphabet};
+ghost use Rattle.fst_syntax.specs.Productions as n;
+ghost use Rattle.fst_syntax.specs.Tables.{firsts};
+ghost use Rattle.fst_syntax.specs.Reading.{Reads, reads};
 
 use crate::bodies::{Bodies, body};
-use crate::body::BodyTree;
-use crate::decl::{Abstraction, Decl, EffectTree, FunTree, LiftTree, RawDecl, Signature};
-use crate::definition::DmTree;
 use crate::definitions::dm;
-use crate::form::Form;
-use crate::make;
-use crate::reader::{Reader, Stop, both};
-use crate::terminal::Terminal;
-use crate::word::Word;
-use fst_base::{OutOfMemory, Seq};
-use std::alloc::Global;
+use crate::heads::head;
+use fst_base::{Seq, both, three, two};
+use fst_syntax::{Abstraction, Signature, Stop, Terminal};
+use fst_term_reader::Reader;
+use fst_trees::{BodyTree, Decl, DmTree, EffectTree, FunTree, LiftTree, RawDecl, Word};
 
-impl<'a> Reader<'a> {
-    #[tactic(auto, using(crate::proofs::Behind::dm_named_part_opens))]
-    pub fn dm_named_part(&mut self) -> Result<DmTree<Word>, Stop>
-        ensures reads { Reads (reads n.dm_named_part self.old) result self.new }
-        ensures shorter { OnOk result (length self.new < length self.old) }
-    {
-        let name = self.name()?;
-        let part = self.dm_after_name(name)?;
-        Ok(part)
-    }
+#[tactic(auto, using(fst_syntax::proofs::Opens::opens))]
+fn dm_block(reader: &mut Reader<'_>) -> Result<DmTree<Word>, Stop>
+    ensures reads { Reads (reads n.dm_block reader.old) result reader.new }
+    ensures shorter { OnOk result (length reader.new < length reader.old) }
+{
+    reader.expect(Terminal::LeftBrace)?;
+    let room = reader.room();
+    let text = dm(reader, room)?;
+    let (text, _) = both(text, reader.expect(Terminal::RightBrace))?;
+    Ok(text)
+}
 
-    #[tactic(auto, using(crate::proofs::Behind::dm_after_name_opens))]
-    fn dm_after_name(&mut self, name: Word) -> Result<DmTree<Word>, Stop>
-        ensures reads { Reads (given name (reads n.dm_after_name self.old)) result self.new }
-        ensures no_longer { OnOk result (length self.new ≤ length self.old) }
-    {
-        match self.peek() {
-            Terminal::LeftParen => {
-                self.expect(Terminal::LeftParen)?;
-                let args = self.run_args()?;
-                Ok(DmTree::Run(name, args))
-            }
-            _ => {
-                let tree = self.rest(make::ident(name))?;
-                Ok(DmTree::Term(tree))
-            }
+#[tactic(auto, using(fst_syntax::proofs::Opens::opens))]
+fn block(reader: &mut Reader<'_>) -> Result<BodyTree<Word>, Stop>
+    ensures reads { Reads (reads n.block reader.old) result reader.new }
+    ensures shorter { OnOk result (length reader.new < length reader.old) }
+{
+    let bodies = Bodies {
+        room: reader.room(),
+        body,
+    };
+    let block = bodies.block(reader)?;
+    Ok(block)
+}
+
+#[tactic(auto, using(fst_syntax::proofs::Opens::opens))]
+fn base(reader: &mut Reader<'_>) -> Result<bool, Stop>
+    ensures reads { Reads (reads n.base reader.old) result reader.new }
+    ensures shorter { OnOk result (length reader.new < length reader.old) }
+{
+    match reader.peek() {
+        Terminal::PureEffect => {
+            reader.expect(Terminal::PureEffect)?;
+            Ok(false)
         }
-    }
-
-    #[tactic(auto, using(crate::proofs::Opens::opens))]
-    fn run_args(&mut self) -> Result<Seq<Form<Word>>, Stop>
-        ensures reads { Reads (reads n.run_args self.old) result self.new }
-        ensures shorter { OnOk result (length self.new < length self.old) }
-    {
-        let first = self.term()?;
-        let second = self.second()?;
-        self.expect(Terminal::RightParen)?;
-        Ok(one_or_two(self.alloc(), first, second)?)
-    }
-
-    #[tactic(auto, using(crate::proofs::Opens::opens))]
-    fn second(&mut self) -> Result<Option<Form<Word>>, Stop>
-        ensures reads { Reads (reads n.second self.old) result self.new }
-        ensures no_longer { OnOk result (length self.new ≤ length self.old) }
-    {
-        match self.peek() {
-            Terminal::Comma => {
-                self.expect(Terminal::Comma)?;
-                let term = self.term()?;
-                Ok(Some(term))
-            }
-            _ => Ok(None),
+        _ => {
+            reader.expect(Terminal::DivEffect)?;
+            Ok(true)
         }
-    }
-
-    #[tactic(auto, using(crate::proofs::Opens::opens))]
-    fn dm_block(&mut self) -> Result<DmTree<Word>, Stop>
-        ensures reads { Reads (reads n.dm_block self.old) result self.new }
-        ensures shorter { OnOk result (length self.new < length self.old) }
-    {
-        self.expect(Terminal::LeftBrace)?;
-        let room = self.room();
-        let text = dm(self, room)?;
-        self.expect(Terminal::RightBrace)?;
-        Ok(text)
-    }
-
-    #[tactic(auto, using(crate::proofs::Opens::opens))]
-    fn block(&mut self) -> Result<BodyTree<Word>, Stop>
-        ensures reads { Reads (reads n.block self.old) result self.new }
-        ensures shorter { OnOk result (length self.new < length self.old) }
-    {
-        let bodies = Bodies {
-            room: self.room(),
-            body,
-        };
-        let block = bodies.block(self)?;
-        Ok(block)
-    }
-
-    #[tactic(auto, using(crate::proofs::Opens::opens))]
-    fn base(&mut self) -> Result<bool, Stop>
-        ensures reads { Reads (reads n.base self.old) result self.new }
-        ensures shorter { OnOk result (length self.new < length self.old) }
-    {
-        match self.peek() {
-            Terminal::PureEffect => {
-                self.expect(Terminal::PureEffect)?;
-                Ok(false)
-            }
-            _ => {
-                self.expect(Terminal::DivEffect)?;
-                Ok(true)
-            }
-        }
-    }
-
-    #[tactic(auto, using(crate::proofs::Opens::opens))]
-    fn two_names(&mut self) -> Result<Seq<Word>, Stop>
-        ensures reads { Reads (reads n.two_names self.old) result self.new }
-        ensures shorter { OnOk result (length self.new < length self.old) }
-    {
-        let first = self.binder()?;
-        let second = self.binder()?;
-        let mut names = Seq::new(self.alloc());
-        names.push(first)?;
-        names.push(second)?;
-        Ok(names)
-    }
-
-    #[tactic(auto, using(crate::proofs::Opens::opens))]
-    fn three_names(&mut self) -> Result<Seq<Word>, Stop>
-        ensures reads { Reads (reads n.three_names self.old) result self.new }
-        ensures shorter { OnOk result (length self.new < length self.old) }
-    {
-        let first = self.binder()?;
-        let second = self.binder()?;
-        let third = self.binder()?;
-        let mut names = Seq::new(self.alloc());
-        names.push(first)?;
-        names.push(second)?;
-        names.push(third)?;
-        Ok(names)
-    }
-
-    #[tactic(auto, using(crate::proofs::Opens::opens))]
-    fn effect(&mut self) -> Result<EffectTree<Word>, Stop>
-        ensures reads { Reads (reads n.effect self.old) result self.new }
-        ensures shorter { OnOk result (length self.new < length self.old) }
-    {
-        let signature = self.signature()?;
-        let (signature, returning) = both(signature, self.returning())?;
-        let (texts, joining) = both((signature, returning), self.joining())?;
-        let (signature, returning) = texts;
-        let Signature {
-            name,
-            div,
-            input,
-            result,
-        } = signature;
-        Ok(EffectTree {
-            name,
-            div,
-            input,
-            result,
-            ret_names: returning.names,
-            ret: returning.text,
-            bind_names: joining.names,
-            bind: joining.text,
-        })
-    }
-
-    #[tactic(auto, using(crate::proofs::Opens::opens))]
-    fn signature(&mut self) -> Result<Signature, Stop>
-        ensures reads { Reads (reads n.signature self.old) result self.new }
-        ensures shorter { OnOk result (length self.new < length self.old) }
-    {
-        self.expect(Terminal::Effect)?;
-        let name = self.name()?;
-        self.expect(Terminal::Colon)?;
-        let div = self.base()?;
-        self.expect(Terminal::Input)?;
-        let input = self.sort()?;
-        self.expect(Terminal::Result)?;
-        let result = self.sort()?;
-        Ok(Signature {
-            name,
-            div,
-            input,
-            result,
-        })
-    }
-
-    #[tactic(auto, using(crate::proofs::Opens::opens))]
-    fn returning(&mut self) -> Result<Abstraction, Stop>
-        ensures reads { Reads (reads n.returning self.old) result self.new }
-        ensures shorter { OnOk result (length self.new < length self.old) }
-    {
-        self.expect(Terminal::Return)?;
-        let names = self.two_names()?;
-        let text = self.dm_block()?;
-        Ok(Abstraction { names, text })
-    }
-
-    #[tactic(auto, using(crate::proofs::Opens::opens))]
-    fn joining(&mut self) -> Result<Abstraction, Stop>
-        ensures reads { Reads (reads n.joining self.old) result self.new }
-        ensures shorter { OnOk result (length self.new < length self.old) }
-    {
-        self.expect(Terminal::Bind)?;
-        let names = self.three_names()?;
-        let text = self.dm_block()?;
-        Ok(Abstraction { names, text })
-    }
-
-    #[tactic(auto, using(crate::proofs::Opens::opens))]
-    fn lift(&mut self) -> Result<LiftTree<Word>, Stop>
-        ensures reads { Reads (reads n.lift self.old) result self.new }
-        ensures shorter { OnOk result (length self.new < length self.old) }
-    {
-        let at = self.expect(Terminal::Lift)?;
-        let from = self.name()?;
-        self.expect(Terminal::To)?;
-        let to = self.name()?;
-        self.expect(Terminal::By)?;
-        let names = self.two_names()?;
-        let text = self.dm_block()?;
-        Ok(LiftTree {
-            at,
-            from,
-            to,
-            names,
-            text,
-        })
-    }
-
-    #[tactic(auto, using(crate::proofs::Opens::opens))]
-    fn fun(&mut self) -> Result<FunTree<Word>, Stop>
-        ensures reads { Reads (reads n.fun self.old) result self.new }
-        ensures shorter { OnOk result (length self.new < length self.old) }
-    {
-        let head = self.head()?;
-        let (head, body) = both(head, self.block())?;
-        Ok(FunTree {
-            head,
-            joined: false,
-            body,
-        })
-    }
-
-    #[tactic(auto, using(crate::proofs::Opens::opens))]
-    fn decl(&mut self) -> Result<RawDecl, Stop>
-        ensures reads { Reads (reads n.decl self.old) result self.new }
-        ensures shorter { OnOk result (length self.new < length self.old) }
-    {
-        match self.peek() {
-            Terminal::Effect => {
-                let effect = self.effect()?;
-                Ok(Decl::Effect(effect))
-            }
-            Terminal::Lift => {
-                let lift = self.lift()?;
-                Ok(Decl::Lift(lift))
-            }
-            _ => {
-                let fun = self.fun()?;
-                Ok(Decl::Fun(fun))
-            }
-        }
-    }
-
-    fn at_decl(&self) -> bool
-        ensures { result ≡ has alphabet (firsts n.decl) (next alphabet self.now) }
-    {
-        match self.peek() {
-            Terminal::Effect => true,
-            Terminal::Lift => true,
-            Terminal::Fun => true,
-            _ => false,
-        }
-    }
-
-    /// The declarations at the front.
-    pub fn program(&mut self) -> Result<Seq<RawDecl>, Stop>
-        ensures reads { Reads (reads n.program self.old) result self.new }
-    {
-        let mut decls = Seq::new(self.alloc());
-        'decls: while self.at_decl() {
-            let decl = self.decl()?;
-            decls.push(decl)?;
-        }
-        Ok(decls)
     }
 }
 
-fn one_or_two(
-    alloc: Global,
-    first: Form<Word>,
-    second: Option<Form<Word>>,
-) -> Result<Seq<Form<Word>>, OutOfMemory>
-    ensures { IfOk result (λ terms. terms ≡ one_or_two first second) }
+#[tactic(auto, using(fst_syntax::proofs::Opens::opens))]
+fn two_names(reader: &mut Reader<'_>) -> Result<Seq<Word>, Stop>
+    ensures reads { Reads (reads n.two_names reader.old) result reader.new }
+    ensures shorter { OnOk result (length reader.new < length reader.old) }
 {
-    let mut terms = Seq::new(alloc);
-    terms.push(first)?;
-    match second {
-        Some(second) => {
-            terms.push(second)?;
-            Ok(terms)
+    let first = reader.binder()?;
+    let (first, second) = both(first, reader.binder())?;
+    Ok(two(reader.alloc(), first, second)?)
+}
+
+#[tactic(auto, using(fst_syntax::proofs::Opens::opens))]
+fn three_names(reader: &mut Reader<'_>) -> Result<Seq<Word>, Stop>
+    ensures reads { Reads (reads n.three_names reader.old) result reader.new }
+    ensures shorter { OnOk result (length reader.new < length reader.old) }
+{
+    let first = reader.binder()?;
+    let (first, second) = both(first, reader.binder())?;
+    let ((first, second), third) = both((first, second), reader.binder())?;
+    Ok(three(reader.alloc(), first, second, third)?)
+}
+
+#[tactic(auto, using(fst_syntax::proofs::Opens::opens))]
+fn effect(reader: &mut Reader<'_>) -> Result<EffectTree<Word>, Stop>
+    ensures reads { Reads (reads n.effect reader.old) result reader.new }
+    ensures shorter { OnOk result (length reader.new < length reader.old) }
+{
+    let signature = signature(reader)?;
+    let (signature, returning) = both(signature, returning(reader))?;
+    let (texts, joining) = both((signature, returning), joining(reader))?;
+    let (signature, returning) = texts;
+    let Signature {
+        name,
+        div,
+        input,
+        result,
+    } = signature;
+    Ok(EffectTree {
+        name,
+        div,
+        input,
+        result,
+        ret_names: returning.names,
+        ret: returning.text,
+        bind_names: joining.names,
+        bind: joining.text,
+    })
+}
+
+#[tactic(auto, using(fst_syntax::proofs::Opens::opens))]
+fn signature(reader: &mut Reader<'_>) -> Result<Signature, Stop>
+    ensures reads { Reads (reads n.signature reader.old) result reader.new }
+    ensures shorter { OnOk result (length reader.new < length reader.old) }
+{
+    reader.expect(Terminal::Effect)?;
+    let name = reader.name()?;
+    let (name, _) = both(name, reader.expect(Terminal::Colon))?;
+    let (name, div) = both(name, base(reader))?;
+    let (name, _) = both(name, reader.expect(Terminal::Input))?;
+    let (name, input) = both(name, reader.sort())?;
+    let (front, _) = both((name, input), reader.expect(Terminal::Result))?;
+    let ((name, input), result) = both(front, reader.sort())?;
+    Ok(Signature {
+        name,
+        div,
+        input,
+        result,
+    })
+}
+
+#[tactic(auto, using(fst_syntax::proofs::Opens::opens))]
+fn returning(reader: &mut Reader<'_>) -> Result<Abstraction, Stop>
+    ensures reads { Reads (reads n.returning reader.old) result reader.new }
+    ensures shorter { OnOk result (length reader.new < length reader.old) }
+{
+    reader.expect(Terminal::Return)?;
+    let names = two_names(reader)?;
+    let text = dm_block(reader)?;
+    Ok(Abstraction { names, text })
+}
+
+#[tactic(auto, using(fst_syntax::proofs::Opens::opens))]
+fn joining(reader: &mut Reader<'_>) -> Result<Abstraction, Stop>
+    ensures reads { Reads (reads n.joining reader.old) result reader.new }
+    ensures shorter { OnOk result (length reader.new < length reader.old) }
+{
+    reader.expect(Terminal::Bind)?;
+    let names = three_names(reader)?;
+    let text = dm_block(reader)?;
+    Ok(Abstraction { names, text })
+}
+
+#[tactic(auto, using(fst_syntax::proofs::Opens::opens))]
+fn lift(reader: &mut Reader<'_>) -> Result<LiftTree<Word>, Stop>
+    ensures reads { Reads (reads n.lift reader.old) result reader.new }
+    ensures shorter { OnOk result (length reader.new < length reader.old) }
+{
+    let at = reader.expect(Terminal::Lift)?;
+    let from = reader.name()?;
+    reader.expect(Terminal::To)?;
+    let to = reader.name()?;
+    reader.expect(Terminal::By)?;
+    let names = two_names(reader)?;
+    let text = dm_block(reader)?;
+    Ok(LiftTree {
+        at,
+        from,
+        to,
+        names,
+        text,
+    })
+}
+
+#[tactic(auto, using(fst_syntax::proofs::Opens::opens))]
+fn fun(reader: &mut Reader<'_>) -> Result<FunTree<Word>, Stop>
+    ensures reads { Reads (reads n.fun reader.old) result reader.new }
+    ensures shorter { OnOk result (length reader.new < length reader.old) }
+{
+    let head = head(reader)?;
+    let (head, body) = both(head, block(reader))?;
+    Ok(FunTree {
+        head,
+        joined: false,
+        body,
+    })
+}
+
+#[tactic(auto, using(fst_syntax::proofs::Opens::opens))]
+fn decl(reader: &mut Reader<'_>) -> Result<RawDecl, Stop>
+    ensures reads { Reads (reads n.decl reader.old) result reader.new }
+    ensures shorter { OnOk result (length reader.new < length reader.old) }
+{
+    match reader.peek() {
+        Terminal::Effect => {
+            let effect = effect(reader)?;
+            Ok(Decl::Effect(effect))
         }
-        None => Ok(terms),
+        Terminal::Lift => {
+            let lift = lift(reader)?;
+            Ok(Decl::Lift(lift))
+        }
+        _ => {
+            let fun = fun(reader)?;
+            Ok(Decl::Fun(fun))
+        }
     }
+}
+
+fn at_decl(reader: &Reader<'_>) -> bool
+    ensures { result ≡ has alphabet (firsts n.decl) (next alphabet reader.now) }
+{
+    match reader.peek() {
+        Terminal::Effect => true,
+        Terminal::Lift => true,
+        Terminal::Fun => true,
+        _ => false,
+    }
+}
+
+/// The declarations at the front.
+pub fn program(reader: &mut Reader<'_>) -> Result<Seq<RawDecl>, Stop>
+    ensures reads { Reads (reads n.program reader.old) result reader.new }
+{
+    let mut decls = Seq::new(reader.alloc());
+    'decls: while at_decl(reader) {
+        let decl = decl(reader)?;
+        decls.push(decl)?;
+    }
+    Ok(decls)
 }

@@ -2,17 +2,16 @@
 //! proved by itself.
 
 ghost use Rattle.std.specs.Prelude.{◌≡◌, ◌<◌, ◌≤◌, [], ◌∷◌, length, OnOk};
-ghost use Rattle.fst_reader.specs.Productions as n;
-ghost use Rattle.fst_reader.specs.Reading.{Reads, reads, behind};
-ghost use Rattle.fst_reader.specs.Nests.{NestsDm};
+ghost use Rattle.fst_syntax.specs.Productions as n;
+ghost use Rattle.fst_syntax.specs.Reading.{Reads, reads, run, behind};
+ghost use Rattle.fst_syntax.specs.Tails as tails;
+ghost use Rattle.fst_syntax.specs.Nests.{NestsDm};
 
-use crate::body::Binding;
-use crate::definition::DmTree;
-use crate::pattern::{ArmTree, Pattern};
-use crate::reader::{Reader, Stop, both};
-use crate::terminal::Terminal;
-use crate::word::Word;
-use fst_base::{Box, Seq};
+use crate::parts::dm_named_part;
+use fst_base::{Box, Seq, both};
+use fst_syntax::{Binding, Pattern, Stop, Terminal};
+use fst_term_reader::Reader;
+use fst_trees::{ArmTree, DmTree, Word};
 
 /// The readers of the parts of a definition's text.
 #[derive(Clone, Copy)]
@@ -44,7 +43,7 @@ impl<F: Fn(&mut Reader<'_>, usize) -> Result<DmTree<Word>, Stop>> Definitions<F>
         Ok(Box::new(reader.alloc(), text)?)
     }
 
-    #[tactic(auto, using(crate::proofs::Opens::opens))]
+    #[tactic(auto, using(fst_syntax::proofs::Opens::opens))]
     pub fn whole(&self, reader: &mut Reader<'_>) -> Result<DmTree<Word>, Stop>
         requires nests { NestsDm self.now.room (F.pre self.now.text) (F.post self.now.text) }
         requires room { length reader.old ≤ self.now.room }
@@ -71,7 +70,7 @@ impl<F: Fn(&mut Reader<'_>, usize) -> Result<DmTree<Word>, Stop>> Definitions<F>
         }
     }
 
-    #[tactic(auto, using(crate::proofs::Opens::opens))]
+    #[tactic(auto, using(fst_syntax::proofs::Opens::opens))]
     fn dm_let(&self, reader: &mut Reader<'_>) -> Result<DmTree<Word>, Stop>
         requires nests { NestsDm self.now.room (F.pre self.now.text) (F.post self.now.text) }
         requires room { length reader.old ≤ self.now.room }
@@ -85,7 +84,7 @@ impl<F: Fn(&mut Reader<'_>, usize) -> Result<DmTree<Word>, Stop>> Definitions<F>
         Ok(DmTree::Let(name, sort, part, rest))
     }
 
-    #[tactic(auto, using(crate::proofs::Opens::opens))]
+    #[tactic(auto, using(fst_syntax::proofs::Opens::opens))]
     fn branching(&self, reader: &mut Reader<'_>) -> Result<DmTree<Word>, Stop>
         requires nests { NestsDm self.now.room (F.pre self.now.text) (F.post self.now.text) }
         requires room { length reader.old ≤ self.now.room }
@@ -94,14 +93,27 @@ impl<F: Fn(&mut Reader<'_>, usize) -> Result<DmTree<Word>, Stop>> Definitions<F>
     {
         reader.expect(Terminal::If)?;
         let condition = reader.term()?;
+        let (condition, (yes, no)) = both(condition, self.two_texts(reader))?;
+        Ok(DmTree::If(condition, yes, no))
+    }
+
+    fn two_texts(
+        &self,
+        reader: &mut Reader<'_>,
+    ) -> Result<(Box<DmTree<Word>>, Box<DmTree<Word>>), Stop>
+        requires nests { NestsDm self.now.room (F.pre self.now.text) (F.post self.now.text) }
+        requires room { length reader.old ≤ self.now.room }
+        ensures reads { Reads (run tails.two_texts reader.old) result reader.new }
+        ensures shorter { OnOk result (length reader.new < length reader.old) }
+    {
         reader.expect(Terminal::Then)?;
         let yes = self.boxed(reader)?;
         reader.expect(Terminal::Else)?;
         let no = self.boxed(reader)?;
-        Ok(DmTree::If(condition, yes, no))
+        Ok((yes, no))
     }
 
-    #[tactic(auto, using(crate::proofs::Opens::opens))]
+    #[tactic(auto, using(fst_syntax::proofs::Opens::opens))]
     fn matching(&self, reader: &mut Reader<'_>) -> Result<DmTree<Word>, Stop>
         requires nests { NestsDm self.now.room (F.pre self.now.text) (F.post self.now.text) }
         requires room { length reader.old ≤ self.now.room }
@@ -110,13 +122,23 @@ impl<F: Fn(&mut Reader<'_>, usize) -> Result<DmTree<Word>, Stop>> Definitions<F>
     {
         let at = reader.expect(Terminal::Match)?;
         let scrutinee = reader.term()?;
-        reader.expect(Terminal::With)?;
-        let arms = self.arms(reader)?;
-        reader.expect(Terminal::EndWord)?;
+        let (scrutinee, arms) = both(scrutinee, self.with_arms(reader))?;
         Ok(DmTree::Match(scrutinee, at, arms))
     }
 
-    #[tactic(auto, using(crate::proofs::Runs::dm_arms_opens))]
+    fn with_arms(&self, reader: &mut Reader<'_>) -> Result<Seq<ArmTree<DmTree<Word>>>, Stop>
+        requires nests { NestsDm self.now.room (F.pre self.now.text) (F.post self.now.text) }
+        requires room { length reader.old ≤ self.now.room }
+        ensures reads { Reads (run tails.with_dm_arms reader.old) result reader.new }
+        ensures shorter { OnOk result (length reader.new < length reader.old) }
+    {
+        reader.expect(Terminal::With)?;
+        let arms = self.arms(reader)?;
+        reader.expect(Terminal::EndWord)?;
+        Ok(arms)
+    }
+
+    #[tactic(auto, using(fst_syntax::proofs::Runs::dm_arms_opens))]
     fn arms(&self, reader: &mut Reader<'_>) -> Result<Seq<ArmTree<DmTree<Word>>>, Stop>
         requires nests { NestsDm self.now.room (F.pre self.now.text) (F.post self.now.text) }
         requires room { length reader.old ≤ self.now.room }
@@ -148,7 +170,7 @@ impl<F: Fn(&mut Reader<'_>, usize) -> Result<DmTree<Word>, Stop>> Definitions<F>
         Ok(arms)
     }
 
-    #[tactic(auto, using(crate::proofs::Opens::opens))]
+    #[tactic(auto, using(fst_syntax::proofs::Opens::opens))]
     fn arm(&self, reader: &mut Reader<'_>) -> Result<ArmTree<DmTree<Word>>, Stop>
         requires nests { NestsDm self.now.room (F.pre self.now.text) (F.post self.now.text) }
         requires room { length reader.old ≤ self.now.room }
@@ -168,7 +190,7 @@ impl<F: Fn(&mut Reader<'_>, usize) -> Result<DmTree<Word>, Stop>> Definitions<F>
         })
     }
 
-    #[tactic(auto, using(crate::proofs::Opens::opens))]
+    #[tactic(auto, using(fst_syntax::proofs::Opens::opens))]
     fn binding(&self, reader: &mut Reader<'_>) -> Result<Binding<Box<DmTree<Word>>>, Stop>
         requires nests { NestsDm self.now.room (F.pre self.now.text) (F.post self.now.text) }
         requires room { length reader.old ≤ self.now.room }
@@ -177,10 +199,20 @@ impl<F: Fn(&mut Reader<'_>, usize) -> Result<DmTree<Word>, Stop>> Definitions<F>
     {
         let name = reader.binder()?;
         let sort = reader.annotation()?;
+        let (sort, part) = both(sort, self.bound_text(reader))?;
+        Ok(Binding { name, sort, part })
+    }
+
+    fn bound_text(&self, reader: &mut Reader<'_>) -> Result<Box<DmTree<Word>>, Stop>
+        requires nests { NestsDm self.now.room (F.pre self.now.text) (F.post self.now.text) }
+        requires room { length reader.old ≤ self.now.room }
+        ensures reads { Reads (run tails.bound_text reader.old) result reader.new }
+        ensures shorter { OnOk result (length reader.new < length reader.old) }
+    {
         reader.expect(Terminal::Equal)?;
         let part = self.boxed_part(reader)?;
         reader.expect(Terminal::In)?;
-        Ok(Binding { name, sort, part })
+        Ok(part)
     }
 
     /// A part on the heap.
@@ -194,7 +226,7 @@ impl<F: Fn(&mut Reader<'_>, usize) -> Result<DmTree<Word>, Stop>> Definitions<F>
         Ok(Box::new(reader.alloc(), part)?)
     }
 
-    #[tactic(auto, using(crate::proofs::Opens::opens))]
+    #[tactic(auto, using(fst_syntax::proofs::Opens::opens))]
     fn part(&self, reader: &mut Reader<'_>) -> Result<DmTree<Word>, Stop>
         requires nests { NestsDm self.now.room (F.pre self.now.text) (F.post self.now.text) }
         requires room { length reader.old ≤ self.now.room }
@@ -209,7 +241,7 @@ impl<F: Fn(&mut Reader<'_>, usize) -> Result<DmTree<Word>, Stop>> Definitions<F>
                 Ok(DmTree::Block(at, text))
             }
             Terminal::Name => {
-                let part = reader.dm_named_part()?;
+                let part = dm_named_part(reader)?;
                 Ok(part)
             }
             _ => {

@@ -1,34 +1,12 @@
 //! The limits on what is read: open brackets, tokens of a declaration, and the size of literals.
 
 ghost use Rattle.std.specs.Prelude.{◌≡◌, ◌≤◌, ◌<◌, ◌||◌, nat_lt, false, length, map, IfSome, IfNone};
-ghost use Rattle.fst_reader.specs.Limits as l;
-ghost use Rattle.fst_reader.specs.Tokens.{token_of};
+ghost use Rattle.fst_syntax.specs.Limits as l;
+ghost use Rattle.fst_syntax.specs.Tokens.{token_of};
 
-use crate::lexeme::Lexeme;
-use crate::reader::magnitude;
-use crate::terminal::Terminal;
 use fst_base::{Pos, Rule};
-
-/// What stands before a token.
-#[derive(Clone, Copy, Debug)]
-pub struct Seen {
-    /// The brackets that are open.
-    pub brackets: usize,
-    /// The tokens since the last word that begins a declaration, that word included.
-    pub declared: usize,
-    /// Whether the last token may end an operand.
-    pub operand: bool,
-    /// The last token's place, where it is a minus that belongs to the literal behind it.
-    pub minus: Option<Pos>,
-}
-
-/// The first token with which a limit is passed: its number, the rule and the place.
-#[derive(Clone, Copy, Debug)]
-pub struct Limit {
-    pub index: usize,
-    pub rule: Rule,
-    pub at: Pos,
-}
+use fst_syntax::{Lexeme, Limit, Seen, Terminal};
+use fst_term_reader::magnitude;
 
 fn opens(terminal: Terminal) -> bool
     ensures { result ≡ l.opens terminal }
@@ -69,84 +47,82 @@ fn ends_operand(terminal: Terminal) -> bool
     }
 }
 
-impl Seen {
-    fn opened(&self, terminal: Terminal) -> usize
-        requires { self.now.brackets ≤ 256 }
-        ensures { result ≡ l.opened self.now terminal }
-    {
-        if opens(terminal) {
-            self.brackets + 1
-        } else if closes(terminal) {
-            self.brackets.saturating_sub(1)
-        } else {
-            self.brackets
-        }
+fn opened(seen: &Seen, terminal: Terminal) -> usize
+    requires { seen.now.brackets ≤ 256 }
+    ensures { result ≡ l.opened seen.now terminal }
+{
+    if opens(terminal) {
+        seen.brackets + 1
+    } else if closes(terminal) {
+        seen.brackets.saturating_sub(1)
+    } else {
+        seen.brackets
     }
+}
 
-    fn counted(&self, terminal: Terminal) -> usize
-        requires { self.now.declared ≤ 2048 }
-        ensures { result ≡ l.counted self.now terminal }
-    {
-        if declares(terminal) {
-            1
-        } else if self.declared > 0 {
-            self.declared + 1
-        } else {
-            0
-        }
+fn counted(seen: &Seen, terminal: Terminal) -> usize
+    requires { seen.now.declared ≤ 2048 }
+    ensures { result ≡ l.counted seen.now terminal }
+{
+    if declares(terminal) {
+        1
+    } else if seen.declared > 0 {
+        seen.declared + 1
+    } else {
+        0
     }
+}
 
-    /// What stands before the next token.
-    fn see(&self, terminal: Terminal, at: Pos) -> Seen
-        requires open { self.now.brackets ≤ 256 }
-        requires declared { self.now.declared ≤ 2048 }
-        ensures { result ≡ l.see self.now terminal at }
-    {
-        let minus = if terminal == Terminal::Minus && !self.operand {
-            Some(at)
-        } else {
-            None
-        };
-        Seen {
-            brackets: self.opened(terminal),
-            declared: self.counted(terminal),
-            operand: ends_operand(terminal),
-            minus,
-        }
+/// What stands before the next token.
+fn see(seen: &Seen, terminal: Terminal, at: Pos) -> Seen
+    requires open { seen.now.brackets ≤ 256 }
+    requires declared { seen.now.declared ≤ 2048 }
+    ensures { result ≡ l.see seen.now terminal at }
+{
+    let minus = if terminal == Terminal::Minus && !seen.operand {
+        Some(at)
+    } else {
+        None
+    };
+    Seen {
+        brackets: opened(seen, terminal),
+        declared: counted(seen, terminal),
+        operand: ends_operand(terminal),
+        minus,
     }
+}
 
-    /// Whether the last bracket or token was one too many.
-    fn is_deep(&self) -> bool
-        ensures value { result ≡ (nat_lt 256 self.now.brackets || nat_lt 2048 self.now.declared) }
-        ensures shallow { result ≡ false → (self.now.brackets ≤ 256) × (self.now.declared ≤ 2048) }
-    {
-        self.brackets > 256 || self.declared > 2048
+/// Whether the last bracket or token was one too many.
+fn is_deep(seen: &Seen) -> bool
+    ensures value { result ≡ (nat_lt 256 seen.now.brackets || nat_lt 2048 seen.now.declared) }
+    ensures shallow { result ≡ false → (seen.now.brackets ≤ 256) × (seen.now.declared ≤ 2048) }
+{
+    seen.brackets > 256 || seen.declared > 2048
+}
+
+/// The rule that the token breaks, and its place; `next` stands behind it.
+fn passed(seen: &Seen, next: &Seen, token: &Lexeme<'_>) -> Option<(Rule, Pos)>
+    requires { next.now ≡ l.see seen.now token.now.terminal (record { at = token.now.at }) }
+    ensures value { result ≡ l.passed seen.now (token_of token.now) }
+    ensures shallow { IfNone result ((next.now.brackets ≤ 256) × (next.now.declared ≤ 2048)) }
+{
+    let at = Pos { at: token.at };
+    let wide = token.terminal == Terminal::Number && is_wide(seen, token.text);
+    match seen.minus {
+        Some(minus) if wide => Some((Rule::NumberTooWide, minus)),
+        _ if is_deep(next) => Some((Rule::TooDeep, at)),
+        _ if wide => Some((Rule::NumberTooWide, at)),
+        _ => None,
     }
+}
 
-    /// The rule that the token breaks, and its place; `next` stands behind it.
-    fn passed(&self, next: &Seen, token: &Lexeme<'_>) -> Option<(Rule, Pos)>
-        requires { next.now ≡ l.see self.now token.now.terminal (record { at = token.now.at }) }
-        ensures value { result ≡ l.passed self.now (token_of token.now) }
-        ensures shallow { IfNone result ((next.now.brackets ≤ 256) × (next.now.declared ≤ 2048)) }
-    {
-        let at = Pos { at: token.at };
-        let wide = token.terminal == Terminal::Number && self.is_wide(token.text);
-        match self.minus {
-            Some(minus) if wide => Some((Rule::NumberTooWide, minus)),
-            _ if next.is_deep() => Some((Rule::TooDeep, at)),
-            _ if wide => Some((Rule::NumberTooWide, at)),
-            _ => None,
-        }
-    }
-
-    /// Whether the digits are a literal outside 128 bits.
-    fn is_wide(&self, digits: &[u8]) -> bool
-        ensures { result ≡ l.is_wide self.now digits.now }
-    {
-        match self.minus {
-            Some(_) => magnitude(digits) > 1 << 127,
-            None => magnitude(digits) >= 1 << 127,
-        }
+/// Whether the digits are a literal outside 128 bits.
+fn is_wide(seen: &Seen, digits: &[u8]) -> bool
+    ensures { result ≡ l.is_wide seen.now digits.now }
+{
+    match seen.minus {
+        Some(_) => magnitude(digits) > 1 << 127,
+        None => magnitude(digits) >= 1 << 127,
     }
 }
 
@@ -163,8 +139,8 @@ pub fn first_limit(tokens: &[Lexeme<'_>]) -> Option<Limit>
     let mut index = 0;
     let mut left = tokens;
     'tokens: while let [token, rest @ ..] = left {
-        let next = seen.see(token.terminal, Pos { at: token.at });
-        if let Some((rule, at)) = seen.passed(&next, token) {
+        let next = see(&seen, token.terminal, Pos { at: token.at });
+        if let Some((rule, at)) = passed(&seen, &next, token) {
             return Some(Limit { index, rule, at });
         }
         seen = next;

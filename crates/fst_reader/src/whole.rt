@@ -1,22 +1,23 @@
 //! From bytes to a program, or to the refusal that is due.
 
 ghost use Rattle.std.specs.Prelude.{◌≡◌, ◌<◌, ◌^◌, ◌⊎◌, ℕ, List, length, map, IfOk};
-ghost use Rattle.fst_reader.specs.Program.{Spells, FaultAt, Begins, IsProgram, IsRefused, AtLimit, Rising, place, first_place};
-ghost use Rattle.fst_reader.specs.Limits.{first_limit};
+ghost use Rattle.fst_syntax.specs.Program.{Spells, FaultAt, Begins, IsProgram, IsRefused, AtLimit, Rising, place, first_place};
+ghost use Rattle.fst_syntax.specs.Limits.{first_limit};
 ghost use Rattle.std.specs.Prelude as o;
 ghost use Rattle.std.specs.List.{All};
-ghost use Rattle.fst_reader.specs.Tokens.{token_of, HasText};
-ghost use Rattle.fst_reader.specs.Tokens as t;
-ghost use Rattle.fst_reader.specs.declared.decl.Decl as d;
-ghost use Rattle.fst_reader.specs.declared.word.Word as w;
+ghost use Rattle.fst_syntax.specs.Tokens.{token_of, HasText};
+ghost use Rattle.fst_syntax.specs.Tokens as t;
+ghost use Rattle.fst_trees.specs.declared.decl.Decl as d;
+ghost use Rattle.fst_trees.specs.declared.word.Word as w;
 ghost use Rattle.fst_base.specs.declared.rule.Rule as r;
 ghost use Rattle.fst_base.specs.declared.place.Pos as p;
 
-use crate::decl::{RawDecl, RawProgram};
-use crate::lexeme::{Lexeme, lexemes};
-use crate::limits::{Limit, first_limit};
-use crate::reader::{Reader, Stop};
+use crate::decls::program;
+use crate::limits::first_limit;
 use fst_base::{Fault, OutOfMemory, Pos, Rule, Seq};
+use fst_syntax::{Lexeme, Limit, Stop};
+use fst_term_reader::{Reader, lexemes};
+use fst_trees::{RawDecl, RawProgram};
 use std::alloc::Global;
 
 /// The most bytes that a file has.
@@ -37,7 +38,7 @@ fn read_tokens(alloc: Global, tokens: &[Lexeme<'_>]) -> Result<Seq<RawDecl>, Ref
     ensures fault { (at : o.Option p.Pos) → result ≡ Err (Refusal.Syntax at) → (ks : List t.Token) × (FaultAt (map token_of tokens.now) ks × (at ≡ first_place ks)) }
 {
     let mut reader = Reader::new(alloc, tokens);
-    match reader.program() {
+    match program(&mut reader) {
         Ok(decls) => match reader.place() {
             None => Ok(decls),
             Some(at) => Err(Refusal::Syntax(Some(at))),

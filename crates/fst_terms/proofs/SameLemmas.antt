@@ -1,6 +1,7 @@
 -- Equality of terms as a test; members of lists of terms.
 use Rattle.std.proofs.Common.{◌≡◌, ℕ, Bool, true, false, ◌&&◌, List, [], ◌∷◌, refl, ap, ap₂, Decides, ◌⊎◌, inl, inr, nat_eq, rules}
 use Rattle.std.proofs.lemmas.Bool.Decides.{Decides-int_eq}
+use Rattle.std.proofs.lemmas.Slice.Eq.{bytes_eq-Decides}
 use Rattle.std.proofs.lemmas.Bool.{eq-eqb, ne_eqb, cases_eq}
 use denote.Enum.Bare.{same_true, true_same}
 use Rattle.fst_base.specs.contracts.op.Op.{the_type}
@@ -10,7 +11,7 @@ use Rattle.fst_base.specs.declared.op.Op.{Op}
 use Rattle.fst_base.specs.Rows.{same_op}
 use Rattle.fst_base.specs.Values.{same_bool}
 use Rattle.fst_terms.specs.Terms.{Tm, Tms, t_var, t_int, t_bool, t_unit, t_prim, t_if, t_app, t_let, t_end, t_more}
-use Rattle.fst_terms.specs.Same.{same_name, same_term, same_terms}
+use Rattle.fst_terms.specs.Same.{same_term, same_terms}
 
 nat_eq-decides : (i j : ℕ) → Decides (nat_eq i j) (i ≡ j)
 nat_eq-decides i j = go (cases_eq i j)
@@ -27,11 +28,6 @@ same_bool-decides false false = (λ _. refl, λ _. refl)
 
 pub same_op-decides : (o p : Op) → Decides (same_op o p) (o ≡ p)
 same_op-decides o p = (same_true the_type (search rules) o p, true_same the_type o p)
-
-pub same_name-decides : (xs ys : List ℕ) → Decides (same_name xs ys) (xs ≡ ys)
-same_name-decides [] [] = (λ _. refl, λ _. refl)
-same_name-decides (x ∷ xs) (y ∷ ys) = decided-both _ _ (λ e f. ap₂ ◌∷◌ e f) (λ e. cc) (λ e. cc) (nat_eq-decides x y) (same_name-decides xs ys)
-same_name-decides xs ys = decided-no refl (λ e. cc)
 
 -- a conjunction of three tests, and of four
 three : {A B C D : Type 0} (a b c : Bool) → (A → B → C → D) → (D → A) → (D → B) → (D → C) → Decides a A → Decides b B → Decides c C → Decides (a && b && c) D
@@ -50,7 +46,7 @@ mutual
   same_term-decides (t_prim o S ts at) (t_prim p T us bt) = four _ _ _ _ (λ e f g h. cc) (λ e. cc) (λ e. cc) (λ e. cc) (λ e. cc) (same_op-decides o p) (same_sort-decides S T) (same_terms-decide ts us) (nat_eq-decides at bt)
   same_term-decides (t_if c t u) (t_if d v w) = three _ _ _ (λ e f g. cc) (λ e. cc) (λ e. cc) (λ e. cc) (same_term-decides c d) (same_term-decides t v) (same_term-decides u w)
   same_term-decides (t_app k S ts) (t_app l T us) = three _ _ _ (λ e f g. cc) (λ e. cc) (λ e. cc) (λ e. cc) (nat_eq-decides k l) (same_sort-decides S T) (same_terms-decide ts us)
-  same_term-decides (t_let x t u) (t_let y v w) = three _ _ _ (λ e f g. cc) (λ e. cc) (λ e. cc) (λ e. cc) (same_name-decides x y) (same_term-decides t v) (same_term-decides u w)
+  same_term-decides (t_let x t u) (t_let y v w) = three _ _ _ (λ e f g. cc) (λ e. cc) (λ e. cc) (λ e. cc) (bytes_eq-Decides x y) (same_term-decides t v) (same_term-decides u w)
   same_term-decides t u = decided-no refl (λ e. cc)
 
   same_terms-decide : (ts us : Tms) → Decides (same_terms ts us) (ts ≡ us)

@@ -1,15 +1,10 @@
 -- Equality of terms as a test.
-use Rattle.std.specs.Prelude.{ℕ, Bool, true, false, ◌&&◌, if◌then◌else◌, nat_eq, List, [], ◌∷◌, ◌++◌}
+use Rattle.std.specs.Prelude.{ℕ, Bool, true, false, ◌&&◌, if◌then◌else◌, nat_eq, List, [], ◌∷◌, ◌++◌, bytes_eq}
 use Rattle.std.specs.Ordering.{int_eq}
 use Rattle.fst_base.specs.Sorts.{same_sort}
 use Rattle.fst_base.specs.Values.{same_bool}
 use Rattle.fst_base.specs.Rows.{same_op}
 use Rattle.fst_terms.specs.Terms.{Tm, Tms, t_var, t_int, t_bool, t_unit, t_prim, t_if, t_app, t_let, t_end, t_more}
-
-abbrev pub same_name : List ℕ → List ℕ → Bool
-same_name [] [] = true
-same_name (x ∷ xs) (y ∷ ys) = nat_eq x y && same_name xs ys
-same_name _ _ = false
 
 -- whether the two are the same term, places and names counted
 abbrev mutual
@@ -21,7 +16,7 @@ abbrev mutual
   same_term (t_prim o S ts at) (t_prim p T us bt) = same_op o p && same_sort S T && same_terms ts us && nat_eq at bt
   same_term (t_if c t u) (t_if d v w) = same_term c d && same_term t v && same_term u w
   same_term (t_app k S ts) (t_app l T us) = nat_eq k l && same_sort S T && same_terms ts us
-  same_term (t_let x t u) (t_let y v w) = same_name x y && same_term t v && same_term u w
+  same_term (t_let x t u) (t_let y v w) = bytes_eq x y && same_term t v && same_term u w
   same_term _ _ = false
 
   pub same_terms : Tms → Tms → Bool

@@ -1,4 +1,4 @@
-ghost use Rattle.std.specs.Prelude.{◌≡◌, ◌++◌, Ok, map, IfOk, OnOk};
+ghost use Rattle.std.specs.Prelude.{◌≡◌, ◌++◌, map, IfOk, OnOk};
 ghost use Rattle.fst_terms.specs.Flats.{flat_of, plain_flat, sorts_of_vars};
 ghost use Rattle.fst_terms.specs.Indices.{lets, lets_of};
 ghost use Rattle.fst_terms.specs.Meaning.{plain_sequent};
@@ -12,7 +12,7 @@ use crate::flat::Flat;
 use crate::parts::{add_all_parts, add_literals};
 use crate::sequent::{Sequent, Var};
 use crate::term::{Formula, Term};
-use fst_base::{OutOfMemory, Seq};
+use fst_base::{OutOfMemory, Seq, both};
 use std::alloc::Global;
 
 /// The flat form of a propositional sequent, with these formulas as facts.
@@ -81,19 +81,5 @@ fn count(items: usize) -> Result<u32, OutOfMemory>
     match u32::try_from(items) {
         Ok(count) => Ok(count),
         Err(_) => Err(OutOfMemory),
-    }
-}
-
-/// The first with what the second gives. Where the second wants memory the first is let go here, so that the caller owns
-/// nothing at its exit.
-pub fn both<A: Drop, B: Drop>(
-    first: A,
-    second: Result<B, OutOfMemory>,
-) -> Result<(A, B), OutOfMemory>
-    ensures { IfOk result (λ pair. (pair.0 ≡ first) × (second ≡ Ok pair.1)) }
-{
-    match second {
-        Ok(second) => Ok((first, second)),
-        Err(fault) => Err(fault),
     }
 }

@@ -365,10 +365,12 @@ static HELP: &[u8] =
 fstar check FILE                proves the functions of the file
 fstar run FILE FUEL ARGUMENTS   proves them, then runs main with so many units of fuel
 fstar --help                    prints this text
-fstar --version                 prints the version
+fstar --version                 prints the version and the kit
+./fstar --prove                 in a checkout: proves and builds the program
 
 exit statuses: 0 done, 1 not proved, 2 the file is refused, 3 the words are refused,
-4 out of fuel, 7 the file can't be read, 8 the text can't be written, 10 no memory
+4 out of fuel, 7 the file can't be read, 8 the text can't be written, 10 no memory;
+70 the script ./fstar itself failed
 
 example: fstar check examples/same.fst
 ";

@@ -1,9 +1,35 @@
-//! Tests of public calls whose own crates take long to prove: a crate's tests cost a second proof of that crate.
+//! Tests of the public calls of all crates: a crate with tests of its own is proved twice.
 #![tactic(auto)]
 
 #[cfg(test)]
 mod answers;
 #[cfg(test)]
+mod builders;
+#[cfg(test)]
+mod code;
+#[cfg(test)]
+mod congruence;
+#[cfg(test)]
+mod flats;
+#[cfg(test)]
+mod lattices;
+#[cfg(test)]
+mod machine;
+#[cfg(test)]
+mod outside;
+#[cfg(test)]
+mod primitives;
+#[cfg(test)]
+mod programs;
+#[cfg(test)]
 mod reading;
 #[cfg(test)]
+mod rows;
+#[cfg(test)]
+mod terms;
+#[cfg(test)]
+mod tokens;
+#[cfg(test)]
 mod trees;
+#[cfg(test)]
+mod values;

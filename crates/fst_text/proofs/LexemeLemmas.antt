@@ -1,5 +1,5 @@
 -- The longest token at the front.
-use Rattle.std.proofs.Common.{◌≡◌, ℕ, ◌<◌, ◌≤◌, Bool, true, false, ◌||◌, not, ◌==◌, nat_lt, List, [], Some, None, length, take, get_or, refl, sym, ap, subst, ◌∙◌, arith, inl, inr, ◌⊎◌, length-take-le}
+use Rattle.std.proofs.Common.{◌≡◌, ℕ, ◌<◌, ◌≤◌, Bool, true, false, ◌||◌, not, ◌==◌, nat_lt, List, [], Option, Some, None, length, take, get_or, refl, sym, ap, subst, ◌∙◌, arith, inl, inr, ◌⊎◌, length-take-le}
 use Rattle.std.proofs.lemmas.Bool.{cases_Bool, cond-true, cond-false, and_parts}
 use Rattle.std.proofs.lemmas.Bool.Decides.{nat_tests}
 use Rattle.std.proofs.lemmas.List.Sums.{prefix_len-le-length}
@@ -8,11 +8,12 @@ use Rattle.std.specs.List.{prefix_len}
 use Rattle.fst_text.specs.declared.token.Kind.{Kind}
 use Rattle.fst_text.specs.declared.token.Kind.TheVariants.{Word, Ident, Number, Mark}
 use Rattle.fst_text.specs.Characters.{name_len}
-use Rattle.fst_text.specs.Words.{is_word}
-use Rattle.fst_text.specs.Marks.{mark_len}
-use Rattle.fst_text.specs.Tokens.{IsName, IsToken, IsLongest, BeginsNone, kind_of, lexeme}
+use Rattle.fst_text.specs.declared.mark.Mark as mark
+use Rattle.fst_text.specs.Words.{word_of}
+use Rattle.fst_text.specs.Marks.{longest_mark}
+use Rattle.fst_text.specs.Tokens.{IsName, IsToken, IsLongest, BeginsNone, kind_of, marked, lexeme}
 use Rattle.fst_text.proofs.NameLemmas.{no_empty_name, name_len-within, name_len-name, name_len-longest, name-head}
-use Rattle.fst_text.proofs.MarkLemmas.{prefix_len-all, prefix_len-longest, prefix_len-head, mark_len-mark, mark_len-longest, mark-head}
+use Rattle.fst_text.proofs.MarkLemmas.{prefix_len-all, prefix_len-longest, prefix_len-head, size_of, mark_len, mark_len-longest, longest_mark-mark, there, mark-head}
 
 abbrev pub number_len : List ℕ → ℕ
 number_len = prefix_len is_ascii_digit
@@ -31,17 +32,11 @@ lexeme-number bs n none is some =
     let t : nat_lt 0 (number_len bs) ≡ true = grind (arith, nat_tests) in
     ap (λ k. Some (Number, k)) is ∙ sym (cond-false _ _ _ (no_name bs none) ∙ cond-true _ _ _ t)
 
-pub lexeme-mark : (bs : List ℕ) (n : ℕ) → name_len bs ≡ 0 → number_len bs ≡ 0 → n ≡ mark_len bs → 0 < n → Some (Mark, n) ≡ lexeme bs
-lexeme-mark bs n none no_digit is some =
+-- where no identifier and no number begins, a mark may
+pub lexeme-mark : (bs : List ℕ) (found : Option (mark.Mark × ℕ)) → name_len bs ≡ 0 → number_len bs ≡ 0 → found ≡ longest_mark bs → marked found ≡ lexeme bs
+lexeme-mark bs found none no_digit is =
     let f : nat_lt 0 (number_len bs) ≡ false = grind (arith, nat_tests) in
-    let t : nat_lt 0 (mark_len bs) ≡ true = grind (arith, nat_tests) in
-    ap (λ k. Some (Mark, k)) is ∙ sym (cond-false _ _ _ (no_name bs none) ∙ cond-false _ _ _ f ∙ cond-true _ _ _ t)
-
-pub lexeme-nothing : (bs : List ℕ) → name_len bs ≡ 0 → number_len bs ≡ 0 → mark_len bs ≡ 0 → None ≡ lexeme bs
-lexeme-nothing bs none no_digit no_mark =
-    let f : nat_lt 0 (number_len bs) ≡ false = grind (arith, nat_tests) in
-    let g : nat_lt 0 (mark_len bs) ≡ false = grind (arith, nat_tests) in
-    sym (cond-false _ _ _ (no_name bs none) ∙ cond-false _ _ _ f ∙ cond-false _ _ _ g)
+    ap marked is ∙ sym (cond-false _ _ _ (no_name bs none) ∙ cond-false _ _ _ f)
 
 -- where an identifier begins, no number and no mark does
 digit_apart : (b : ℕ) → is_ascii_digit b ≡ true → (is_ascii_alphabetic b || (b == 95)) ≡ true → ⊥
@@ -85,15 +80,15 @@ mark-apart_number bs number = elim (cases_Bool (mark_len bs == 0)) [
 -- no token at the front is longer than the three measures
 bounded : (bs : List ℕ) (n : ℕ) → name_len bs ≤ n → number_len bs ≤ n → mark_len bs ≤ n
     → (other : Kind) (m : ℕ) → m ≤ length bs → IsToken other (take m bs) → m ≤ n
-bounded bs n a b d Word m le token = omega (arith, name_len-longest bs m le token.0)
+bounded bs n a b d (Word w) m le token = omega (arith, name_len-longest bs m le token.0)
 bounded bs n a b d Ident m le token = omega (arith, name_len-longest bs m le token.0)
 bounded bs n a b d Number m le token = omega (arith, prefix_len-longest is_ascii_digit bs m le token.1)
-bounded bs n a b d Mark m le token = omega (arith, mark_len-longest bs m le token)
+bounded bs n a b d (Mark k) m le token = omega (arith, mark_len-longest bs m k le token)
 
 name_token : (w : List ℕ) → IsName w → IsToken (kind_of w) w
-name_token w name = elim (cases_Bool (is_word w)) [
-  | inl t ↦ rw t (name, t)
-  | inr t ↦ rw t (name, t)
+name_token w name = elim (there (word_of w)) [
+  | inl (word, is) ↦ rw is (name, is)
+  | inr is ↦ rw is (name, is)
 ]
 
 pub name-longest : (bs : List ℕ) → 0 < name_len bs → IsLongest (kind_of (take (name_len bs) bs)) (name_len bs) bs
@@ -112,20 +107,22 @@ number-longest bs none some =
       longest = bounded bs (number_len bs) (omega arith) (omega arith) (omega (arith, mark-apart_number bs some));
     }
 
-pub mark-longest : (bs : List ℕ) → name_len bs ≡ 0 → number_len bs ≡ 0 → 0 < mark_len bs → IsLongest Mark (mark_len bs) bs
-mark-longest bs none no_digit some =
-    let mark = mark_len-mark bs some in
+pub mark-longest : (bs : List ℕ) (m : mark.Mark) (n : ℕ) → name_len bs ≡ 0 → number_len bs ≡ 0 → longest_mark bs ≡ Some (m, n) → IsLongest (Mark m) n bs
+mark-longest bs m n none no_digit is =
+    let longest = longest_mark-mark bs m n is in
     record {
-      within = mark.0;
-      token = mark.1;
-      longest = bounded bs (mark_len bs) (omega arith) (omega arith) (omega arith);
+      within = longest.within;
+      token = longest.mark;
+      longest = bounded bs n (omega arith) (omega arith) (omega (arith, ap size_of is));
     }
 
 no_token : (kind : Kind) → ¬ (IsToken kind [])
-no_token Word (name, is) = no_empty_name name
+no_token (Word w) (name, is) = no_empty_name name
 no_token Ident (name, is) = no_empty_name name
 no_token Number (some, all) = some refl
-no_token Mark e = cc
+no_token (Mark m) (inl e) = cc
+no_token (Mark m) (inr (inl e)) = cc
+no_token (Mark m) (inr (inr e)) = cc
 
 pub nothing-begins : (bs : List ℕ) → name_len bs ≡ 0 → number_len bs ≡ 0 → mark_len bs ≡ 0 → BeginsNone bs
 nothing-begins bs none no_digit no_mark kind m le token =
@@ -146,11 +143,11 @@ by_measures bs = elim (cases_Bool (name_len bs == 0)) [
   | inl t ↦ let none : name_len bs ≡ 0 = grind (arith, nat_tests) in elim (cases_Bool (number_len bs == 0)) [
     | inr u ↦ let some : 0 < number_len bs = grind (arith, nat_tests) in
         inl ((Number, number_len bs), (sym (lexeme-number bs _ none refl some), (some, number-longest bs none some)))
-    | inl u ↦ let no_digit : number_len bs ≡ 0 = grind (arith, nat_tests) in elim (cases_Bool (mark_len bs == 0)) [
-      | inr v ↦ let some : 0 < mark_len bs = grind (arith, nat_tests) in
-          inl ((Mark, mark_len bs), (sym (lexeme-mark bs _ none no_digit refl some), (some, mark-longest bs none no_digit some)))
-      | inl v ↦ let no_mark : mark_len bs ≡ 0 = grind (arith, nat_tests) in
-          inr (sym (lexeme-nothing bs none no_digit no_mark), nothing-begins bs none no_digit no_mark)
+    | inl u ↦ let no_digit : number_len bs ≡ 0 = grind (arith, nat_tests) in elim (there (longest_mark bs)) [
+      | inl ((m, n), is) ↦
+          inl ((Mark m, n), (sym (lexeme-mark bs (Some (m, n)) none no_digit (sym is)), ((longest_mark-mark bs m n is).some, mark-longest bs m n none no_digit is)))
+      | inr is ↦
+          inr (sym (lexeme-mark bs None none no_digit (sym is)), nothing-begins bs none no_digit (ap size_of is))
     ]
   ]
 ]

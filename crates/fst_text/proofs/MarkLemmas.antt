@@ -1,5 +1,5 @@
 -- The number and the mark at the front.
-use Rattle.std.proofs.Common.{◌≡◌, ℕ, zero, suc, ◌+◌, ◌<◌, ◌≤◌, Bool, true, false, ◌&&◌, ◌||◌, not, ◌==◌, nat_lt, List, [], ◌∷◌, length, take, get_or, bytes_eq, refl, sym, ap, subst, ◌∙◌, arith, inl, inr, ◌⊎◌, cond, lit≤, length-take}
+use Rattle.std.proofs.Common.{◌≡◌, ℕ, zero, suc, ◌+◌, ◌<◌, ◌≤◌, Bool, true, ◌&&◌, ◌||◌, not, ◌==◌, nat_lt, List, [], ◌∷◌, Option, Some, None, length, take, get_or, bytes_eq, refl, sym, ap, subst, ◌∙◌, arith, inl, inr, ◌⊎◌, lit≤, length-take}
 use Rattle.std.proofs.Math.Seq.{take-append-add}
 use Rattle.std.proofs.lemmas.List.{get_or-take}
 use Rattle.std.proofs.lemmas.Bool.{cases_Bool, cond-true, cond-false, and_parts}
@@ -7,8 +7,9 @@ use Rattle.std.proofs.lemmas.Bool.Decides.{nat_tests}
 use Rattle.std.proofs.lemmas.Slice.Eq.{bytes_eq-Decides}
 use Rattle.std.specs.Char.{is_ascii_digit, is_ascii_alphabetic}
 use Rattle.std.specs.List.{list_all, prefix_len}
-use Rattle.fst_text.specs.Words.{is_one_of}
-use Rattle.fst_text.specs.Marks.{marks_of_1, marks_of_2, marks_of_3, is_mark, mark_len}
+use Rattle.fst_text.specs.declared.mark.Mark.{Mark}
+use Rattle.fst_text.specs.Words.{looked_up}
+use Rattle.fst_text.specs.Marks.{marks_of_1, marks_of_2, marks_of_3, IsMark, sized, longest_mark}
 
 -- the digits that are measured are digits
 pub prefix_len-all : (p : ℕ → Bool) (xs : List ℕ) → list_all p (take (prefix_len p xs) xs) ≡ true
@@ -35,15 +36,15 @@ prefix_len-head p (x ∷ xs) some = elim (cases_Bool (p x)) [
   | inr t ↦ absurd (let none : prefix_len p (x ∷ xs) ≡ 0 = cond-false _ _ _ t in omega arith)
 ]
 
--- what holds of each of the texts holds of one of them
-pub is_one_of-has : (holds : List ℕ → Bool) (texts : List (List ℕ)) → list_all holds texts ≡ true
-    → (bs : List ℕ) → is_one_of texts bs ≡ true → holds bs ≡ true
-is_one_of-has holds [] all bs one = absurd (let f : false ≡ true = one in cc)
-is_one_of-has holds (t ∷ texts) all bs one =
+-- what holds of the text of each row holds of one that is looked up
+pub row-has : {A : Type 0} (holds : List ℕ → Bool) (rows : List (List ℕ × A)) → list_all (λ r. holds r.0) rows ≡ true
+    → (bs : List ℕ) (a : A) → looked_up rows bs ≡ Some a → holds bs ≡ true
+row-has holds [] all bs a is = absurd (cc)
+row-has holds (r ∷ rows) all bs a is =
     let both = and_parts _ _ all in
-    elim (cases_Bool (bytes_eq t bs)) [
-      | inl e ↦ subst (λ w. holds w ≡ true) ((bytes_eq-Decides t bs).0 e) both.0
-      | inr e ↦ is_one_of-has holds texts both.1 bs (sym (ap (λ b. b || is_one_of texts bs) e) ∙ one)
+    elim (cases_Bool (bytes_eq r.0 bs)) [
+      | inl e ↦ subst (λ w. holds w ≡ true) ((bytes_eq-Decides r.0 bs).0 e) both.0
+      | inr e ↦ row-has holds rows both.1 bs a (sym (cond-false _ _ _ e) ∙ is)
     ]
 
 abbrev is_long : ℕ → List ℕ → Bool
@@ -53,92 +54,99 @@ is_long n t = length t == n
 abbrev pub begins_mark : ℕ → Bool
 begins_mark b = nat_lt b 128 && (not (is_ascii_alphabetic b || (b == 95)) && not (is_ascii_digit b))
 
-long_of : (n : ℕ) (texts : List (List ℕ)) (bs : List ℕ) → list_all (is_long n) texts ≡ true → is_one_of texts bs ≡ true → length bs ≡ n
-long_of n texts bs all one = let t = is_one_of-has (is_long n) texts all bs one in grind (arith, nat_tests)
+long_of : (n : ℕ) (rows : List (List ℕ × Mark)) (bs : List ℕ) (m : Mark) → list_all (λ r. is_long n r.0) rows ≡ true → looked_up rows bs ≡ Some m → length bs ≡ n
+long_of n rows bs m all is = let t = row-has (is_long n) rows all bs m is in grind (arith, nat_tests)
 
-cases_mark : (a b c : Bool) → (a || b || c) ≡ true → (a ≡ true) ⊎ ((b ≡ true) ⊎ (c ≡ true))
-cases_mark true b c e = inl refl
-cases_mark false true c e = inr (inl refl)
-cases_mark false false true e = inr (inr refl)
-cases_mark false false false e = absurd (cc)
+-- the size of the longest mark at the front, 0 where none begins there
+abbrev pub size_of : Option (Mark × ℕ) → ℕ
+size_of (Some (m, n)) = n
+size_of None = 0
 
-first : (a b c : Bool) → a ≡ true → (a || b || c) ≡ true
-first a b c e = ap (λ x. x || b || c) e
+abbrev pub mark_len : List ℕ → ℕ
+mark_len bs = size_of (longest_mark bs)
 
-second : (a b c : Bool) → b ≡ true → (a || b || c) ≡ true
-second true b c e = refl
-second false b c e = ap (λ x. x || c) e
+same_size : (bs : List ℕ) (m n : ℕ) → m ≤ length bs → length (take m bs) ≡ n → m ≡ n
+same_size bs m n le long = omega (arith, length-take m bs)
 
-third : (a b c : Bool) → c ≡ true → (a || b || c) ≡ true
-third true b c e = refl
-third false true c e = refl
-third false false c e = e
+least_1 : (c b a : Option Mark) (m : Mark) → a ≡ Some m → 1 ≤ size_of (sized c 3 (sized b 2 (sized a 1 None)))
+least_1 (Some x) b a m e = lit≤ tt
+least_1 None (Some x) a m e = lit≤ tt
+least_1 None None (Some x) m e = lit≤ tt
+least_1 None None None m e = absurd (cc)
 
-size_of : (bs : List ℕ) (m n : ℕ) → m ≤ length bs → length (take m bs) ≡ n → m ≡ n
-size_of bs m n le long = omega (arith, length-take m bs)
+least_2 : (c b a : Option Mark) (m : Mark) → b ≡ Some m → 2 ≤ size_of (sized c 3 (sized b 2 (sized a 1 None)))
+least_2 (Some x) b a m e = lit≤ tt
+least_2 None (Some x) a m e = lit≤ tt
+least_2 None None a m e = absurd (cc)
 
-least_1 : (c b a : Bool) → a ≡ true → 1 ≤ cond c 3 (cond b 2 (cond a 1 0))
-least_1 true b a e = lit≤ tt
-least_1 false true a e = lit≤ tt
-least_1 false false true e = lit≤ tt
-least_1 false false false e = absurd (cc)
-
-least_2 : (c b a : Bool) → b ≡ true → 2 ≤ cond c 3 (cond b 2 (cond a 1 0))
-least_2 true b a e = lit≤ tt
-least_2 false true a e = lit≤ tt
-least_2 false false a e = absurd (cc)
-
-least_3 : (c b a : Bool) → c ≡ true → 3 ≤ cond c 3 (cond b 2 (cond a 1 0))
-least_3 true b a e = lit≤ tt
-least_3 false b a e = absurd (cc)
+least_3 : (c b a : Option Mark) (m : Mark) → c ≡ Some m → 3 ≤ size_of (sized c 3 (sized b 2 (sized a 1 None)))
+least_3 (Some x) b a m e = lit≤ tt
+least_3 None b a m e = absurd (cc)
 
 -- no mark at the front is longer
-pub mark_len-longest : (bs : List ℕ) (m : ℕ) → m ≤ length bs → is_mark (take m bs) ≡ true → m ≤ mark_len bs
-mark_len-longest bs m le mark = elim (cases_mark _ _ _ mark) [
-  | inl a ↦
-      let is : m ≡ 1 = size_of bs m 1 le (long_of 1 marks_of_1 (take m bs) refl a) in
-      let a' = subst (λ k. is_one_of marks_of_1 (take k bs) ≡ true) is a in
-      subst (λ k. k ≤ mark_len bs) (sym is) (least_1 (is_one_of marks_of_3 (take 3 bs)) (is_one_of marks_of_2 (take 2 bs)) _ a')
-  | inr (inl b) ↦
-      let is : m ≡ 2 = size_of bs m 2 le (long_of 2 marks_of_2 (take m bs) refl b) in
-      let b' = subst (λ k. is_one_of marks_of_2 (take k bs) ≡ true) is b in
-      subst (λ k. k ≤ mark_len bs) (sym is) (least_2 (is_one_of marks_of_3 (take 3 bs)) _ (is_one_of marks_of_1 (take 1 bs)) b')
-  | inr (inr d) ↦
-      let is : m ≡ 3 = size_of bs m 3 le (long_of 3 marks_of_3 (take m bs) refl d) in
-      let d' = subst (λ k. is_one_of marks_of_3 (take k bs) ≡ true) is d in
-      subst (λ k. k ≤ mark_len bs) (sym is) (least_3 _ (is_one_of marks_of_2 (take 2 bs)) (is_one_of marks_of_1 (take 1 bs)) d')
-]
+pub mark_len-longest : (bs : List ℕ) (n : ℕ) (m : Mark) → n ≤ length bs → IsMark m (take n bs) → n ≤ mark_len bs
+mark_len-longest bs n m le (inl a) =
+    let is : n ≡ 1 = same_size bs n 1 le (long_of 1 marks_of_1 (take n bs) m refl a) in
+    let a' = subst (λ k. looked_up marks_of_1 (take k bs) ≡ Some m) is a in
+    subst (λ k. k ≤ mark_len bs) (sym is) (least_1 (looked_up marks_of_3 (take 3 bs)) (looked_up marks_of_2 (take 2 bs)) _ m a')
+mark_len-longest bs n m le (inr (inl b)) =
+    let is : n ≡ 2 = same_size bs n 2 le (long_of 2 marks_of_2 (take n bs) m refl b) in
+    let b' = subst (λ k. looked_up marks_of_2 (take k bs) ≡ Some m) is b in
+    subst (λ k. k ≤ mark_len bs) (sym is) (least_2 (looked_up marks_of_3 (take 3 bs)) _ (looked_up marks_of_1 (take 1 bs)) m b')
+mark_len-longest bs n m le (inr (inr d)) =
+    let is : n ≡ 3 = same_size bs n 3 le (long_of 3 marks_of_3 (take n bs) m refl d) in
+    let d' = subst (λ k. looked_up marks_of_3 (take k bs) ≡ Some m) is d in
+    subst (λ k. k ≤ mark_len bs) (sym is) (least_3 _ (looked_up marks_of_2 (take 2 bs)) (looked_up marks_of_1 (take 1 bs)) m d')
+
+abbrev mark_in : Option (Mark × ℕ) → Option Mark
+mark_in (Some (m, n)) = Some m
+mark_in None = None
+
+-- which of the three tables the longest mark is looked up in
+sized-from : (c b a : Option Mark) (m : Mark) (n : ℕ) → sized c 3 (sized b 2 (sized a 1 None)) ≡ Some (m, n)
+    → ((a ≡ Some m) × (n ≡ 1)) ⊎ (((b ≡ Some m) × (n ≡ 2)) ⊎ ((c ≡ Some m) × (n ≡ 3)))
+sized-from (Some x) b a m n e = inr (inr (ap mark_in e, sym (ap size_of e)))
+sized-from None (Some x) a m n e = inr (inl (ap mark_in e, sym (ap size_of e)))
+sized-from None None (Some x) m n e = inl (ap mark_in e, sym (ap size_of e))
+sized-from None None None m n e = absurd (cc)
+
+pub record IsLongestMark (bs : List ℕ) (m : Mark) (n : ℕ) : Type 0 where
+  pub some : 0 < n
+  pub within : n ≤ length bs
+  pub mark : IsMark m (take n bs)
 
 -- the longest mark is one
-pub mark_len-mark : (bs : List ℕ) → 0 < mark_len bs → (mark_len bs ≤ length bs) × (is_mark (take (mark_len bs) bs) ≡ true)
-mark_len-mark bs some = elim (cases_Bool (is_one_of marks_of_3 (take 3 bs))) [
-  | inl t ↦
-      let long = long_of 3 marks_of_3 (take 3 bs) refl t in
-      rw t (omega (arith, long, length-take 3 bs), third (is_one_of marks_of_1 (take 3 bs)) (is_one_of marks_of_2 (take 3 bs)) _ t)
-  | inr t ↦ rw t (elim (cases_Bool (is_one_of marks_of_2 (take 2 bs))) [
-    | inl u ↦
-        let long = long_of 2 marks_of_2 (take 2 bs) refl u in
-        rw u (omega (arith, long, length-take 2 bs), second (is_one_of marks_of_1 (take 2 bs)) _ (is_one_of marks_of_3 (take 2 bs)) u)
-    | inr u ↦ rw u (elim (cases_Bool (is_one_of marks_of_1 (take 1 bs))) [
-      | inl v ↦
-          let long = long_of 1 marks_of_1 (take 1 bs) refl v in
-          rw v (omega (arith, long, length-take 1 bs), first _ (is_one_of marks_of_2 (take 1 bs)) (is_one_of marks_of_3 (take 1 bs)) v)
-      | inr v ↦ absurd (let none : mark_len bs ≡ 0 = cond-false _ _ _ t ∙ cond-false _ _ _ u ∙ cond-false _ _ _ v in omega arith)
-    ])
-  ])
+pub longest_mark-mark : (bs : List ℕ) (m : Mark) (n : ℕ) → longest_mark bs ≡ Some (m, n) → IsLongestMark bs m n
+longest_mark-mark bs m n e = elim (sized-from (looked_up marks_of_3 (take 3 bs)) (looked_up marks_of_2 (take 2 bs)) (looked_up marks_of_1 (take 1 bs)) m n e) [
+  | inl (a, is) ↦
+      let long = long_of 1 marks_of_1 (take 1 bs) m refl a in
+      subst (IsLongestMark bs m) (sym is) (record { some = lit≤ tt; within = omega (arith, long, length-take 1 bs); mark = inl a })
+  | inr (inl (b, is)) ↦
+      let long = long_of 2 marks_of_2 (take 2 bs) m refl b in
+      subst (IsLongestMark bs m) (sym is) (record { some = lit≤ tt; within = omega (arith, long, length-take 2 bs); mark = inr (inl b) })
+  | inr (inr (d, is)) ↦
+      let long = long_of 3 marks_of_3 (take 3 bs) m refl d in
+      subst (IsLongestMark bs m) (sym is) (record { some = lit≤ tt; within = omega (arith, long, length-take 3 bs); mark = inr (inr d) })
 ]
 
 abbrev has_begins_mark : List ℕ → Bool
 has_begins_mark t = begins_mark (get_or t 0 0)
 
-mark-begins : (w : List ℕ) → is_mark w ≡ true → begins_mark (get_or w 0 0) ≡ true
-mark-begins w mark = elim (cases_mark _ _ _ mark) [
-  | inl a ↦ is_one_of-has has_begins_mark marks_of_1 refl w a
-  | inr (inl b) ↦ is_one_of-has has_begins_mark marks_of_2 refl w b
-  | inr (inr d) ↦ is_one_of-has has_begins_mark marks_of_3 refl w d
-]
+mark-begins : (m : Mark) (w : List ℕ) → IsMark m w → begins_mark (get_or w 0 0) ≡ true
+mark-begins m w (inl a) = row-has has_begins_mark marks_of_1 refl w m a
+mark-begins m w (inr (inl b)) = row-has has_begins_mark marks_of_2 refl w m b
+mark-begins m w (inr (inr d)) = row-has has_begins_mark marks_of_3 refl w m d
+
+-- something is found or nothing is
+pub there : {A : Type 0} (o : Option A) → ((a : A) × (o ≡ Some a)) ⊎ (o ≡ None)
+there (Some a) = inl (a, refl)
+there None = inr refl
 
 -- the byte that begins a mark
 pub mark-head : (bs : List ℕ) → 0 < mark_len bs → begins_mark (get_or bs 0 0) ≡ true
-mark-head bs some =
-    subst (λ b. begins_mark b ≡ true) (get_or-take (mark_len bs) bs 0 0 some) (mark-begins (take (mark_len bs) bs) (mark_len-mark bs some).1)
+mark-head bs some = elim (there (longest_mark bs)) [
+  | inl ((m, n), is) ↦
+      let longest = longest_mark-mark bs m n is in
+      subst (λ b. begins_mark b ≡ true) (get_or-take n bs 0 0 longest.some) (mark-begins m (take n bs) longest.mark)
+  | inr is ↦ absurd (omega (arith, ap size_of is))
+]

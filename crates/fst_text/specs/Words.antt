@@ -1,23 +1,69 @@
 -- The identifiers that are words of the language.
-use Rattle.std.specs.Prelude.{ℕ, ◌++◌, Bool, List, [], ◌∷◌, codes, bytes_eq}
-use Rattle.std.specs.List.{list_any}
+use Rattle.std.specs.Prelude.{ℕ, List, [], ◌∷◌, Option, Some, None, codes, bytes_eq, if◌then◌else◌}
+use Rattle.fst_text.specs.declared.word.Word.{Word}
+use Rattle.fst_text.specs.declared.word.Word.TheVariants as word
 
--- the bytes are one of these texts
-abbrev pub is_one_of : List (List ℕ) → List ℕ → Bool
-is_one_of texts bs = list_any (λ t. bytes_eq t bs) texts
+-- what stands beside the text in a table
+abbrev pub looked_up : {A : Type 0} → List (List ℕ × A) → List ℕ → Option A
+looked_up [] bs = None
+looked_up (row ∷ rows) bs = if bytes_eq row.0 bs then Some row.1 else looked_up rows bs
 
-abbrev pub reserved : List (List ℕ)
-reserved = codes "fun" ∷ codes "effect" ∷ codes "lift" ∷ codes "to" ∷ codes "by" ∷ codes "input" ∷ codes "result" ∷ codes "return"
-    ∷ codes "bind" ∷ codes "let" ∷ codes "ghost" ∷ codes "in" ∷ codes "assert" ∷ codes "if" ∷ codes "then" ∷ codes "else" ∷ codes "match"
-    ∷ codes "with" ∷ codes "end" ∷ codes "reflect" ∷ codes "reify" ∷ codes "requires" ∷ codes "ensures" ∷ codes "decreases" ∷ codes "unfold"
-    ∷ codes "unit" ∷ codes "bool" ∷ codes "int" ∷ codes "option" ∷ codes "list" ∷ codes "either" ∷ codes "fst" ∷ codes "snd" ∷ codes "none"
-    ∷ codes "some" ∷ codes "inl" ∷ codes "inr" ∷ codes "len" ∷ codes "true" ∷ codes "false" ∷ codes "not" ∷ codes "PURE" ∷ codes "GHOST"
-    ∷ codes "DIV" ∷ []
+-- the reserved words, and those that are held for later versions
+unfoldable pub words : List (List ℕ × Word)
+words = (codes "fun", word.Fun)
+    ∷ (codes "effect", word.Effect)
+    ∷ (codes "lift", word.Lift)
+    ∷ (codes "to", word.To)
+    ∷ (codes "by", word.By)
+    ∷ (codes "input", word.Input)
+    ∷ (codes "result", word.Result)
+    ∷ (codes "return", word.Return)
+    ∷ (codes "bind", word.Bind)
+    ∷ (codes "let", word.Let)
+    ∷ (codes "ghost", word.Ghost)
+    ∷ (codes "in", word.In)
+    ∷ (codes "assert", word.Assert)
+    ∷ (codes "if", word.If)
+    ∷ (codes "then", word.Then)
+    ∷ (codes "else", word.Else)
+    ∷ (codes "match", word.Match)
+    ∷ (codes "with", word.With)
+    ∷ (codes "end", word.End)
+    ∷ (codes "reflect", word.Reflect)
+    ∷ (codes "reify", word.Reify)
+    ∷ (codes "requires", word.Requires)
+    ∷ (codes "ensures", word.Ensures)
+    ∷ (codes "decreases", word.Decreases)
+    ∷ (codes "unfold", word.Unfold)
+    ∷ (codes "unit", word.Unit)
+    ∷ (codes "bool", word.Bool)
+    ∷ (codes "int", word.Int)
+    ∷ (codes "option", word.Option)
+    ∷ (codes "list", word.List)
+    ∷ (codes "either", word.Either)
+    ∷ (codes "fst", word.Fst)
+    ∷ (codes "snd", word.Snd)
+    ∷ (codes "none", word.None)
+    ∷ (codes "some", word.Some)
+    ∷ (codes "inl", word.Inl)
+    ∷ (codes "inr", word.Inr)
+    ∷ (codes "len", word.Len)
+    ∷ (codes "true", word.True)
+    ∷ (codes "false", word.False)
+    ∷ (codes "not", word.Not)
+    ∷ (codes "PURE", word.PureEffect)
+    ∷ (codes "GHOST", word.GhostEffect)
+    ∷ (codes "DIV", word.DivEffect)
+    ∷ (codes "and", word.Held)
+    ∷ (codes "min", word.Held)
+    ∷ (codes "max", word.Held)
+    ∷ (codes "abs", word.Held)
+    ∷ (codes "forall", word.Held)
+    ∷ (codes "module", word.Held)
+    ∷ (codes "use", word.Held)
+    ∷ (codes "interface", word.Held)
+    ∷ (codes "laws", word.Held)
+    ∷ []
 
--- words that are kept for later versions
-abbrev pub held : List (List ℕ)
-held = codes "and" ∷ codes "min" ∷ codes "max" ∷ codes "abs" ∷ codes "forall" ∷ codes "module" ∷ codes "use" ∷ codes "interface"
-    ∷ codes "laws" ∷ []
-
-abbrev pub is_word : List ℕ → Bool
-is_word = is_one_of (reserved ++ held)
+abbrev pub word_of : List ℕ → Option Word
+word_of = looked_up words

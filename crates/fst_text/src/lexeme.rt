@@ -5,9 +5,9 @@ ghost use Rattle.fst_text.specs.Characters.{name_len};
 ghost use Rattle.fst_text.specs.Tokens.{kind_of, lexeme, IsLongest, BeginsNone};
 
 use crate::character::Class;
-use crate::mark::mark_len;
+use crate::mark::longest_mark;
 use crate::token::Kind;
-use crate::word::is_word;
+use crate::word::word_of;
 
 /// How many bytes the identifier at the front has, whose first character is decoded.
 fn decoded_name_len(bytes: &[u8]) -> usize
@@ -48,10 +48,9 @@ fn number_len(bytes: &[u8]) -> usize
 fn kind_of(name: &[u8]) -> Kind
     ensures { result ≡ kind_of name.now }
 {
-    if is_word(name) {
-        Kind::Word
-    } else {
-        Kind::Ident
+    match word_of(name) {
+        Some(word) => Kind::Word(word),
+        None => Kind::Ident,
     }
 }
 
@@ -69,9 +68,8 @@ pub fn lexeme(bytes: &[u8]) -> Option<(Kind, usize)>
     if number > 0 {
         return Some((Kind::Number, number));
     }
-    let mark = mark_len(bytes);
-    if mark > 0 {
-        return Some((Kind::Mark, mark));
+    match longest_mark(bytes) {
+        Some((mark, size)) => Some((Kind::Mark(mark), size)),
+        None => None,
     }
-    None
 }

@@ -6,10 +6,10 @@ mod character;
 mod lexeme;
 mod mark;
 mod scanner;
-#[cfg(test)]
-mod tests;
 mod token;
 mod word;
 
+pub use mark::Mark;
 pub use scanner::Scanner;
 pub use token::{Kind, Token};
+pub use word::Word;

@@ -1,145 +1,301 @@
 ghost use Rattle.std.specs.Prelude.{◌≡◌, ◌∷◌};
-ghost use Rattle.fst_text.specs.Words.{is_word};
+ghost use Rattle.fst_text.specs.Words.{word_of};
 
-/// Whether a `D` and the rest are a word.
-fn after_capital_d(rest: &[u8]) -> bool
-    ensures { result ≡ is_word (68 ∷ rest.now) }
-{
-    matches!(rest, b"IV")
+/// A word of the language.
+#[derive(Clone, Copy, Debug, PartialEq, Eq)]
+pub enum Word {
+    /// Any word that is held for a later version.
+    Held,
+    Fun,
+    Effect,
+    Lift,
+    To,
+    By,
+    Input,
+    Result,
+    Return,
+    Bind,
+    Let,
+    Ghost,
+    In,
+    Assert,
+    If,
+    Then,
+    Else,
+    Match,
+    With,
+    End,
+    Reflect,
+    Reify,
+    Requires,
+    Ensures,
+    Decreases,
+    Unfold,
+    Unit,
+    Bool,
+    Int,
+    Option,
+    List,
+    Either,
+    Fst,
+    Snd,
+    None,
+    Some,
+    Inl,
+    Inr,
+    Len,
+    True,
+    False,
+    Not,
+    PureEffect,
+    GhostEffect,
+    DivEffect,
 }
 
-/// Whether a `G` and the rest are a word.
-fn after_capital_g(rest: &[u8]) -> bool
-    ensures { result ≡ is_word (71 ∷ rest.now) }
+/// The word that a `D` and the rest are.
+#[tactic(auto, unfolding(crate::specs::Words::words))]
+fn after_capital_d(rest: &[u8]) -> Option<Word>
+    ensures { result ≡ word_of (68 ∷ rest.now) }
 {
-    matches!(rest, b"HOST")
+    match rest {
+        b"IV" => Some(Word::DivEffect),
+        _ => None,
+    }
 }
 
-/// Whether a `P` and the rest are a word.
-fn after_capital_p(rest: &[u8]) -> bool
-    ensures { result ≡ is_word (80 ∷ rest.now) }
+/// The word that a `G` and the rest are.
+#[tactic(auto, unfolding(crate::specs::Words::words))]
+fn after_capital_g(rest: &[u8]) -> Option<Word>
+    ensures { result ≡ word_of (71 ∷ rest.now) }
 {
-    matches!(rest, b"URE")
+    match rest {
+        b"HOST" => Some(Word::GhostEffect),
+        _ => None,
+    }
 }
 
-/// Whether an `a` and the rest are a word.
-fn after_a(rest: &[u8]) -> bool
-    ensures { result ≡ is_word (97 ∷ rest.now) }
+/// The word that a `P` and the rest are.
+#[tactic(auto, unfolding(crate::specs::Words::words))]
+fn after_capital_p(rest: &[u8]) -> Option<Word>
+    ensures { result ≡ word_of (80 ∷ rest.now) }
 {
-    matches!(rest, b"ssert" | b"nd" | b"bs")
+    match rest {
+        b"URE" => Some(Word::PureEffect),
+        _ => None,
+    }
 }
 
-/// Whether a `b` and the rest are a word.
-fn after_b(rest: &[u8]) -> bool
-    ensures { result ≡ is_word (98 ∷ rest.now) }
+/// The word that an `a` and the rest are.
+#[tactic(auto, unfolding(crate::specs::Words::words))]
+fn after_a(rest: &[u8]) -> Option<Word>
+    ensures { result ≡ word_of (97 ∷ rest.now) }
 {
-    matches!(rest, b"y" | b"ind" | b"ool")
+    match rest {
+        b"ssert" => Some(Word::Assert),
+        b"nd" | b"bs" => Some(Word::Held),
+        _ => None,
+    }
 }
 
-/// Whether a `d` and the rest are a word.
-fn after_d(rest: &[u8]) -> bool
-    ensures { result ≡ is_word (100 ∷ rest.now) }
+/// The word that a `b` and the rest are.
+#[tactic(auto, unfolding(crate::specs::Words::words))]
+fn after_b(rest: &[u8]) -> Option<Word>
+    ensures { result ≡ word_of (98 ∷ rest.now) }
 {
-    matches!(rest, b"ecreases")
+    match rest {
+        b"y" => Some(Word::By),
+        b"ind" => Some(Word::Bind),
+        b"ool" => Some(Word::Bool),
+        _ => None,
+    }
 }
 
-/// Whether an `e` and the rest are a word.
-fn after_e(rest: &[u8]) -> bool
-    ensures { result ≡ is_word (101 ∷ rest.now) }
+/// The word that a `d` and the rest are.
+#[tactic(auto, unfolding(crate::specs::Words::words))]
+fn after_d(rest: &[u8]) -> Option<Word>
+    ensures { result ≡ word_of (100 ∷ rest.now) }
 {
-    matches!(rest, b"ffect" | b"lse" | b"nd" | b"nsures" | b"ither")
+    match rest {
+        b"ecreases" => Some(Word::Decreases),
+        _ => None,
+    }
 }
 
-/// Whether an `f` and the rest are a word.
-fn after_f(rest: &[u8]) -> bool
-    ensures { result ≡ is_word (102 ∷ rest.now) }
+/// The word that an `e` and the rest are.
+#[tactic(auto, unfolding(crate::specs::Words::words))]
+fn after_e(rest: &[u8]) -> Option<Word>
+    ensures { result ≡ word_of (101 ∷ rest.now) }
 {
-    matches!(rest, b"un" | b"st" | b"alse" | b"orall")
+    match rest {
+        b"ffect" => Some(Word::Effect),
+        b"lse" => Some(Word::Else),
+        b"nd" => Some(Word::End),
+        b"nsures" => Some(Word::Ensures),
+        b"ither" => Some(Word::Either),
+        _ => None,
+    }
 }
 
-/// Whether a `g` and the rest are a word.
-fn after_g(rest: &[u8]) -> bool
-    ensures { result ≡ is_word (103 ∷ rest.now) }
+/// The word that an `f` and the rest are.
+#[tactic(auto, unfolding(crate::specs::Words::words))]
+fn after_f(rest: &[u8]) -> Option<Word>
+    ensures { result ≡ word_of (102 ∷ rest.now) }
 {
-    matches!(rest, b"host")
+    match rest {
+        b"un" => Some(Word::Fun),
+        b"st" => Some(Word::Fst),
+        b"alse" => Some(Word::False),
+        b"orall" => Some(Word::Held),
+        _ => None,
+    }
 }
 
-/// Whether an `i` and the rest are a word.
-fn after_i(rest: &[u8]) -> bool
-    ensures { result ≡ is_word (105 ∷ rest.now) }
+/// The word that a `g` and the rest are.
+#[tactic(auto, unfolding(crate::specs::Words::words))]
+fn after_g(rest: &[u8]) -> Option<Word>
+    ensures { result ≡ word_of (103 ∷ rest.now) }
 {
-    matches!(
-        rest,
-        b"nput" | b"n" | b"f" | b"nt" | b"nl" | b"nr" | b"nterface"
-    )
+    match rest {
+        b"host" => Some(Word::Ghost),
+        _ => None,
+    }
 }
 
-/// Whether an `l` and the rest are a word.
-fn after_l(rest: &[u8]) -> bool
-    ensures { result ≡ is_word (108 ∷ rest.now) }
+/// The word that an `i` and the rest are.
+#[tactic(auto, unfolding(crate::specs::Words::words))]
+fn after_i(rest: &[u8]) -> Option<Word>
+    ensures { result ≡ word_of (105 ∷ rest.now) }
 {
-    matches!(rest, b"ift" | b"et" | b"ist" | b"en" | b"aws")
+    match rest {
+        b"nput" => Some(Word::Input),
+        b"n" => Some(Word::In),
+        b"f" => Some(Word::If),
+        b"nt" => Some(Word::Int),
+        b"nl" => Some(Word::Inl),
+        b"nr" => Some(Word::Inr),
+        b"nterface" => Some(Word::Held),
+        _ => None,
+    }
 }
 
-/// Whether an `m` and the rest are a word.
-fn after_m(rest: &[u8]) -> bool
-    ensures { result ≡ is_word (109 ∷ rest.now) }
+/// The word that an `l` and the rest are.
+#[tactic(auto, unfolding(crate::specs::Words::words))]
+fn after_l(rest: &[u8]) -> Option<Word>
+    ensures { result ≡ word_of (108 ∷ rest.now) }
 {
-    matches!(rest, b"atch" | b"in" | b"ax" | b"odule")
+    match rest {
+        b"ift" => Some(Word::Lift),
+        b"et" => Some(Word::Let),
+        b"ist" => Some(Word::List),
+        b"en" => Some(Word::Len),
+        b"aws" => Some(Word::Held),
+        _ => None,
+    }
 }
 
-/// Whether an `n` and the rest are a word.
-fn after_n(rest: &[u8]) -> bool
-    ensures { result ≡ is_word (110 ∷ rest.now) }
+/// The word that an `m` and the rest are.
+#[tactic(auto, unfolding(crate::specs::Words::words))]
+fn after_m(rest: &[u8]) -> Option<Word>
+    ensures { result ≡ word_of (109 ∷ rest.now) }
 {
-    matches!(rest, b"one" | b"ot")
+    match rest {
+        b"atch" => Some(Word::Match),
+        b"in" | b"ax" | b"odule" => Some(Word::Held),
+        _ => None,
+    }
 }
 
-/// Whether an `o` and the rest are a word.
-fn after_o(rest: &[u8]) -> bool
-    ensures { result ≡ is_word (111 ∷ rest.now) }
+/// The word that an `n` and the rest are.
+#[tactic(auto, unfolding(crate::specs::Words::words))]
+fn after_n(rest: &[u8]) -> Option<Word>
+    ensures { result ≡ word_of (110 ∷ rest.now) }
 {
-    matches!(rest, b"ption")
+    match rest {
+        b"one" => Some(Word::None),
+        b"ot" => Some(Word::Not),
+        _ => None,
+    }
 }
 
-/// Whether an `r` and the rest are a word.
-fn after_r(rest: &[u8]) -> bool
-    ensures { result ≡ is_word (114 ∷ rest.now) }
+/// The word that an `o` and the rest are.
+#[tactic(auto, unfolding(crate::specs::Words::words))]
+fn after_o(rest: &[u8]) -> Option<Word>
+    ensures { result ≡ word_of (111 ∷ rest.now) }
 {
-    matches!(rest, b"esult" | b"eturn" | b"eflect" | b"eify" | b"equires")
+    match rest {
+        b"ption" => Some(Word::Option),
+        _ => None,
+    }
 }
 
-/// Whether an `s` and the rest are a word.
-fn after_s(rest: &[u8]) -> bool
-    ensures { result ≡ is_word (115 ∷ rest.now) }
+/// The word that an `r` and the rest are.
+#[tactic(auto, unfolding(crate::specs::Words::words))]
+fn after_r(rest: &[u8]) -> Option<Word>
+    ensures { result ≡ word_of (114 ∷ rest.now) }
 {
-    matches!(rest, b"nd" | b"ome")
+    match rest {
+        b"esult" => Some(Word::Result),
+        b"eturn" => Some(Word::Return),
+        b"eflect" => Some(Word::Reflect),
+        b"eify" => Some(Word::Reify),
+        b"equires" => Some(Word::Requires),
+        _ => None,
+    }
 }
 
-/// Whether a `t` and the rest are a word.
-fn after_t(rest: &[u8]) -> bool
-    ensures { result ≡ is_word (116 ∷ rest.now) }
+/// The word that an `s` and the rest are.
+#[tactic(auto, unfolding(crate::specs::Words::words))]
+fn after_s(rest: &[u8]) -> Option<Word>
+    ensures { result ≡ word_of (115 ∷ rest.now) }
 {
-    matches!(rest, b"o" | b"hen" | b"rue")
+    match rest {
+        b"nd" => Some(Word::Snd),
+        b"ome" => Some(Word::Some),
+        _ => None,
+    }
 }
 
-/// Whether a `u` and the rest are a word.
-fn after_u(rest: &[u8]) -> bool
-    ensures { result ≡ is_word (117 ∷ rest.now) }
+/// The word that a `t` and the rest are.
+#[tactic(auto, unfolding(crate::specs::Words::words))]
+fn after_t(rest: &[u8]) -> Option<Word>
+    ensures { result ≡ word_of (116 ∷ rest.now) }
 {
-    matches!(rest, b"nfold" | b"nit" | b"se")
+    match rest {
+        b"o" => Some(Word::To),
+        b"hen" => Some(Word::Then),
+        b"rue" => Some(Word::True),
+        _ => None,
+    }
 }
 
-/// Whether a `w` and the rest are a word.
-fn after_w(rest: &[u8]) -> bool
-    ensures { result ≡ is_word (119 ∷ rest.now) }
+/// The word that a `u` and the rest are.
+#[tactic(auto, unfolding(crate::specs::Words::words))]
+fn after_u(rest: &[u8]) -> Option<Word>
+    ensures { result ≡ word_of (117 ∷ rest.now) }
 {
-    matches!(rest, b"ith")
+    match rest {
+        b"nfold" => Some(Word::Unfold),
+        b"nit" => Some(Word::Unit),
+        b"se" => Some(Word::Held),
+        _ => None,
+    }
 }
 
-/// Whether the first byte and the rest are a word.
-fn is_word_of(first: u8, rest: &[u8]) -> bool
-    ensures { result ≡ is_word (first ∷ rest.now) }
+/// The word that a `w` and the rest are.
+#[tactic(auto, unfolding(crate::specs::Words::words))]
+fn after_w(rest: &[u8]) -> Option<Word>
+    ensures { result ≡ word_of (119 ∷ rest.now) }
+{
+    match rest {
+        b"ith" => Some(Word::With),
+        _ => None,
+    }
+}
+
+/// The word that the first byte and the rest are.
+#[tactic(auto, unfolding(crate::specs::Words::words))]
+fn word_after(first: u8, rest: &[u8]) -> Option<Word>
+    ensures { result ≡ word_of (first ∷ rest.now) }
 {
     match first {
         b'D' => after_capital_d(rest),
@@ -161,16 +317,17 @@ fn is_word_of(first: u8, rest: &[u8]) -> bool
         b't' => after_t(rest),
         b'u' => after_u(rest),
         b'w' => after_w(rest),
-        _ => false,
+        _ => None,
     }
 }
 
-/// Whether the identifier is reserved, or held for a later version.
-pub fn is_word(name: &[u8]) -> bool
-    ensures { result ≡ is_word name.now }
+/// The word that the identifier is, if it is reserved or held for a later version.
+#[tactic(auto, unfolding(crate::specs::Words::words))]
+pub fn word_of(name: &[u8]) -> Option<Word>
+    ensures { result ≡ word_of name.now }
 {
     match name {
-        [first, rest @ ..] => is_word_of(*first, rest),
-        [] => false,
+        [first, rest @ ..] => word_after(*first, rest),
+        [] => None,
     }
 }

@@ -1,16 +1,16 @@
 -- Induction over bodies, variant by variant; parts without what stands in them.
 use Rattle.std.proofs.Common.{List, Option, sym, subst}
 use Rattle.fst_base.specs.declared.place.Pos.{Pos}
-use Rattle.fst_reader.specs.declared.form.Form.{Form}
-use Rattle.fst_reader.specs.declared.sort.SortTree.{SortTree}
-use Rattle.fst_reader.specs.declared.pattern.ArmTree.{ArmTree}
-use Rattle.fst_reader.specs.declared.body.BodyTree.{BodyTree, ind-BodyTree, roll-BodyTree, map-BodyTree}
-use Rattle.fst_reader.specs.declared.body.BodyTree.TheOpen as B
-use Rattle.fst_reader.specs.declared.body.BodyTree.TheVariants as V
-use Rattle.fst_reader.specs.declared.body.PartTree.{PartTree, roll-PartTree}
-use Rattle.fst_reader.specs.declared.body.PartNode.{PartNode, roll-PartNode, map-PartNode}
-use Rattle.fst_reader.specs.declared.body.PartNode.TheVariants as W
-use Rattle.fst_reader.specs.declared.word.Word.{Word}
+use Rattle.fst_trees.specs.declared.form.Form.{Form}
+use Rattle.fst_trees.specs.declared.sort.SortTree.{SortTree}
+use Rattle.fst_trees.specs.declared.pattern.ArmTree.{ArmTree}
+use Rattle.fst_trees.specs.declared.body.BodyTree.{BodyTree, ind-BodyTree, roll-BodyTree, map-BodyTree}
+use Rattle.fst_trees.specs.declared.body.BodyTree.TheOpen as B
+use Rattle.fst_trees.specs.declared.body.BodyTree.TheVariants as V
+use Rattle.fst_trees.specs.declared.body.PartTree.{PartTree, roll-PartTree}
+use Rattle.fst_trees.specs.declared.body.PartNode.{PartNode, roll-PartNode, map-PartNode}
+use Rattle.fst_trees.specs.declared.body.PartNode.TheVariants as W
+use Rattle.fst_trees.specs.declared.word.Word.{Word}
 
 -- the part of a node at a place
 abbrev pub part : Pos → PartNode Word → PartTree Word

@@ -2,16 +2,16 @@
 use Rattle.std.proofs.Common.{◌≡◌, List, ◌∷◌, Option, Some, None, rules}
 use Rattle.fst_base.specs.declared.place.Pos.{Pos}
 use Rattle.fst_program.specs.Texts.{c_ret}
-use Rattle.fst_reader.specs.declared.word.Word.{Word}
-use Rattle.fst_reader.specs.declared.form.Form.{Form}
-use Rattle.fst_reader.specs.declared.sort.SortTree.{SortTree}
-use Rattle.fst_reader.specs.declared.pattern.ArmTree.{ArmTree}
-use Rattle.fst_reader.specs.declared.body.BodyTree as D
-use Rattle.fst_reader.specs.declared.body.BodyTree.{BodyTree}
-use Rattle.fst_reader.specs.declared.body.BodyTree.TheVariants as V
-use Rattle.fst_reader.specs.declared.body.PartTree.{PartTree}
-use Rattle.fst_reader.specs.declared.body.PartNode as P
-use Rattle.fst_reader.specs.declared.body.PartNode.TheVariants as W
+use Rattle.fst_trees.specs.declared.word.Word.{Word}
+use Rattle.fst_trees.specs.declared.form.Form.{Form}
+use Rattle.fst_trees.specs.declared.sort.SortTree.{SortTree}
+use Rattle.fst_trees.specs.declared.pattern.ArmTree.{ArmTree}
+use Rattle.fst_trees.specs.declared.body.BodyTree as D
+use Rattle.fst_trees.specs.declared.body.BodyTree.{BodyTree}
+use Rattle.fst_trees.specs.declared.body.BodyTree.TheVariants as V
+use Rattle.fst_trees.specs.declared.body.PartTree.{PartTree}
+use Rattle.fst_trees.specs.declared.body.PartNode as P
+use Rattle.fst_trees.specs.declared.body.PartNode.TheVariants as W
 use Rattle.fst_top.specs.Elaboration.{Scope, let_of, branch_of, given_some, term_of, text_of, part_of}
 
 pub text-Let : (w : Word) (part : PartTree Word) (rest : BodyTree Word) (xs : Scope) → text_of (V.Let w None part rest) xs ≡ given_some (part_of part xs) (λ t. given_some (text_of rest (record { name = w.text; sort = t.sort } ∷ xs)) (λ c. let_of w t c))

@@ -4,10 +4,10 @@ use Rattle.fst_terms.specs.Meaning.{Meaning}
 use Rattle.fst_terms.specs.declared.flat.Mark.{Mark}
 use Rattle.fst_program.specs.Texts.{Prog}
 use Rattle.fst_program.specs.Paths.{Gl, goals_of, GoalsValid}
-use Rattle.fst_reader.specs.declared.word.Word.{Word}
-use Rattle.fst_reader.specs.declared.decl.Decl.{Decl}
-use Rattle.fst_reader.specs.Program.{IsProgram}
-use Rattle.fst_reader.proofs.OneReadingLemmas.{one-reading}
+use Rattle.fst_trees.specs.declared.word.Word.{Word}
+use Rattle.fst_trees.specs.declared.decl.Decl.{Decl}
+use Rattle.fst_syntax.specs.Program.{IsProgram}
+use Rattle.fst_syntax.proofs.OneReadingLemmas.{one-reading}
 use Rattle.fst_top.specs.Printed.{yes_text, no_text, refusal_text}
 use Rattle.fst_top.specs.Answers.{program_in, Reads, IsYes, IsNo, IsNoOf, IsRefusal, IsUnbuilt, IsUnread, TooLong, longest, Checked}
 use Rattle.fst_top.proofs.DueLemmas.{some_meaning, first-no-goal, first-no-marks, no-not-yes}

@@ -5,12 +5,12 @@ use Rattle.fst_base.specs.declared.op.Op.TheVariants as op
 use Rattle.fst_base.specs.declared.place.Pos.{Pos}
 use Rattle.fst_terms.specs.Terms.{t_bool, t_unit}
 use Rattle.fst_base.specs.Sorts.{s_bool, s_unit}
-use Rattle.fst_reader.specs.declared.word.Word.{Word}
-use Rattle.fst_reader.specs.declared.form.Form.{Form}
-use Rattle.fst_reader.specs.declared.form.FormNode.TheOpen as F
-use Rattle.fst_reader.specs.declared.form.FormNode as D
-use Rattle.fst_reader.specs.declared.form.FormNode.TheVariants as V
-use Rattle.fst_reader.specs.declared.form.FormNode.{FormNode}
+use Rattle.fst_trees.specs.declared.word.Word.{Word}
+use Rattle.fst_trees.specs.declared.form.Form.{Form}
+use Rattle.fst_trees.specs.declared.form.FormNode.TheOpen as F
+use Rattle.fst_trees.specs.declared.form.FormNode as D
+use Rattle.fst_trees.specs.declared.form.FormNode.TheVariants as V
+use Rattle.fst_trees.specs.declared.form.FormNode.{FormNode}
 use Rattle.fst_top.specs.Elaboration.{Typed, typed, Scope, variable, equation_of, if_of, given_some, node_layer, term_of}
 
 -- the form of a node at a place

@@ -3,11 +3,11 @@ use Rattle.std.proofs.Common.{ℤ, Bool, List, [], ◌∷◌, map, sym, subst, A
 use Rattle.std.proofs.lemmas.List.Elements.{All-nil, All-cons}
 use Rattle.fst_base.specs.declared.op.Op.{Op}
 use Rattle.fst_base.specs.declared.place.Pos.{Pos}
-use Rattle.fst_reader.specs.declared.form.Form.{Form, roll-Form}
-use Rattle.fst_reader.specs.declared.form.FormNode.{FormNode, ind-FormNode, roll-FormNode, map-FormNode}
-use Rattle.fst_reader.specs.declared.form.FormNode.TheOpen as F
-use Rattle.fst_reader.specs.declared.form.FormNode.TheVariants as V
-use Rattle.fst_reader.specs.declared.word.Word.{Word}
+use Rattle.fst_trees.specs.declared.form.Form.{Form, roll-Form}
+use Rattle.fst_trees.specs.declared.form.FormNode.{FormNode, ind-FormNode, roll-FormNode, map-FormNode}
+use Rattle.fst_trees.specs.declared.form.FormNode.TheOpen as F
+use Rattle.fst_trees.specs.declared.form.FormNode.TheVariants as V
+use Rattle.fst_trees.specs.declared.word.Word.{Word}
 
 -- the form of a node at a place
 abbrev pub form : Pos → FormNode Word → Form Word

@@ -6,10 +6,10 @@ use Rattle.fst_program.specs.declared.fun.Param.{Param}
 use Rattle.fst_program.specs.Plain.{plain_fun, plain_param}
 use Rattle.std.proofs.Common.{reverse}
 use Rattle.std.proofs.lemmas.List.{map-append, reverse-append}
-use Rattle.fst_reader.specs.declared.decl.Decl.{Decl}
-use Rattle.fst_reader.specs.declared.decl.FunTree.{FunTree}
-use Rattle.fst_reader.specs.declared.decl.ParamTree.{ParamTree}
-use Rattle.fst_reader.specs.declared.word.Word.{Word}
+use Rattle.fst_trees.specs.declared.decl.Decl.{Decl}
+use Rattle.fst_trees.specs.declared.decl.FunTree.{FunTree}
+use Rattle.fst_trees.specs.declared.decl.ParamTree.{ParamTree}
+use Rattle.fst_trees.specs.declared.word.Word.{Word}
 use Rattle.fst_top.specs.Built.{var_of}
 use Rattle.fst_top.specs.Elaboration.{fun_decl, fun_of_tree, funs_from, given_some, most_funs, program_of, is_blank, is_named, only_if, param_of, params_of_trees, scope_of}
 use Rattle.std.proofs.Common.{not, ◌||◌}

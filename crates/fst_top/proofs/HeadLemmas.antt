@@ -1,10 +1,10 @@
 -- The sort that a tree is, a variant at a time.
 use Rattle.std.proofs.Common.{◌≡◌, Some, None, rules}
 use Rattle.fst_base.specs.Sorts.{s_unit, s_bool}
-use Rattle.fst_reader.specs.declared.word.Word.{Word}
-use Rattle.fst_reader.specs.declared.sort.SortTree as D
-use Rattle.fst_reader.specs.declared.sort.SortTree.{SortTree}
-use Rattle.fst_reader.specs.declared.sort.SortTree.TheVariants as V
+use Rattle.fst_trees.specs.declared.word.Word.{Word}
+use Rattle.fst_trees.specs.declared.sort.SortTree as D
+use Rattle.fst_trees.specs.declared.sort.SortTree.{SortTree}
+use Rattle.fst_trees.specs.declared.sort.SortTree.TheVariants as V
 use Rattle.fst_top.specs.Elaboration.{sort_of_tree}
 
 pub sort-Unit : sort_of_tree V.Unit ≡ Some s_unit

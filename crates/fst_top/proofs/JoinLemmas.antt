@@ -10,8 +10,8 @@ use Rattle.fst_program.specs.declared.goal.Goal.{Goal}
 use Rattle.fst_program.specs.Plain.{plain_fun, plain_program}
 use Rattle.fst_program.specs.Paths.{Gl, plain_goal, fun_goals, goals_from, goals_of, GoalsValid}
 use Rattle.fst_program.specs.Good.{Good, AllGood}
-use Rattle.fst_reader.specs.declared.word.Word.{Word}
-use Rattle.fst_reader.specs.declared.decl.Decl.{Decl}
+use Rattle.fst_trees.specs.declared.word.Word.{Word}
+use Rattle.fst_trees.specs.declared.decl.Decl.{Decl}
 use Rattle.fst_top.specs.Built.{IsBuilt}
 use Rattle.fst_top.specs.Elaboration.{program_of, funs_from, fun_decl, fun_of_tree, is_named, most_funs}
 use Rattle.fst_top.specs.Answers.{program_in, Reads, FirstNo, IsNoOf, IsYes, has_word}

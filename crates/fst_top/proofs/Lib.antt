@@ -10,6 +10,7 @@ pub mod CheckedLemmas
 pub mod TopLemmas
 pub mod GatheredLemmas
 pub mod FunctionLemmas
+mod GivenLemmas
 pub mod StopLemmas
 pub mod TypingLemmas
 pub mod FormInduction
@@ -22,8 +23,8 @@ pub mod WayLemmas
 pub mod GoalLemmas
 pub mod PropositionalGoals
 pub mod RunLemmas
+pub mod SoundLemmas
 pub mod ArgumentLemmas
-pub mod CodeLemmas
 pub mod FuelLemmas
 pub mod RanLemmas
 pub mod HeadlineLemmas

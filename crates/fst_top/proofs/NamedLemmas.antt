@@ -1,9 +1,8 @@
 -- Whether a name is one of these, looked for from the first one on.
-use Rattle.std.proofs.Common.{◌≡◌, ℕ, zero, suc, ◌+◌, ◌≤◌, Bool, true, false, if◌then◌else◌, List, [], ◌∷◌, map, length, drop, slice_get, Some, refl, sym, ap, ◌∙◌, arith}
+use Rattle.std.proofs.Common.{◌≡◌, ℕ, zero, suc, ◌+◌, ◌≤◌, Bool, true, false, if◌then◌else◌, List, [], ◌∷◌, map, length, drop, slice_get, Some, refl, sym, ap, ◌∙◌, arith, bytes_eq}
 use Rattle.std.proofs.Common.{nat_eq, ◌&&◌}
 use lib.Pointwise.{pointwise}
-use Rattle.fst_terms.specs.Same.{same_name}
-use Rattle.fst_terms.proofs.SameLemmas.{same_name-decides}
+use Rattle.std.proofs.lemmas.Slice.Eq.{bytes_eq-Decides}
 use Rattle.fst_top.specs.Elaboration.{is_named}
 
 chosen-true : (b c : Bool) → b ≡ true → (if b then true else c) ≡ true
@@ -12,15 +11,15 @@ chosen-true b c e = rw e refl
 chosen-false : (b c : Bool) → b ≡ false → (if b then true else c) ≡ c
 chosen-false b c e = rw e refl
 
-not-same : (x y : List ℕ) → (x ≡ y → ⊥) → same_name x y ≡ false
-not-same x y n = go (same_name x y) refl
+not-same : (x y : List ℕ) → (x ≡ y → ⊥) → bytes_eq x y ≡ false
+not-same x y n = go (bytes_eq x y) refl
   where
-    go : (b : Bool) → same_name x y ≡ b → same_name x y ≡ false
-    go true e = absurd (n ((same_name-decides x y).0 e))
+    go : (b : Bool) → bytes_eq x y ≡ b → bytes_eq x y ≡ false
+    go true e = absurd (n ((bytes_eq-Decides x y).0 e))
     go false e = e
 
 -- two texts compared byte by byte
-pub pointwise-same : (x y : List ℕ) → pointwise nat_eq x y ≡ same_name x y
+pub pointwise-same : (x y : List ℕ) → pointwise nat_eq x y ≡ bytes_eq x y
 pointwise-same [] [] = refl
 pointwise-same [] (b ∷ y) = refl
 pointwise-same (a ∷ x) [] = refl
@@ -29,7 +28,7 @@ pointwise-same (a ∷ x) (b ∷ y) = ap (λ t. nat_eq a b && t) (pointwise-same 
 -- the names of these
 module _ {A : Type 0} (name : A → List ℕ) where
   pub named-here : (x : List ℕ) (ps : List A) (k : ℕ) (p : A) → slice_get ps k ≡ Some p → x ≡ name p → is_named x (map name (drop k ps)) ≡ true
-  named-here x (q ∷ ps) zero p e s = let f : q ≡ p = cc in chosen-true _ _ ((same_name-decides x (name q)).1 (s ∙ ap name (sym f)))
+  named-here x (q ∷ ps) zero p e s = let f : q ≡ p = cc in chosen-true _ _ ((bytes_eq-Decides x (name q)).1 (s ∙ ap name (sym f)))
   named-here x (q ∷ ps) (suc k) p e s = named-here x ps k p e s
   named-here x [] zero p e s = cc
   named-here x [] (suc k) p e s = cc

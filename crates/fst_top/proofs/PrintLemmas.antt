@@ -1,24 +1,23 @@
 -- Lemmas on printed texts.
-use Rattle.std.proofs.Common.{◌≡◌, ◌↔◌, ℕ, zero, suc, ◌-◌, ◌<◌, ◌≤◌, Bool, true, false, if◌then◌else◌, IsTrue, List, [], ◌∷◌, ◌++◌, get_or, codes, Result, Ok, Err, OnOk, map, length, take, slice_get, Option, Some, None, refl, sym, ap, ap₂, ◌∙◌, arith}
+use Rattle.std.proofs.Common.{◌≡◌, ◌↔◌, ℕ, zero, suc, ◌-◌, ◌<◌, ◌≤◌, Bool, true, false, if◌then◌else◌, IsTrue, List, [], ◌∷◌, ◌++◌, get_or, codes, Result, Ok, Err, OnOk, map, length, take, slice_get, Option, Some, None, refl, sym, ap, ap₂, ◌∙◌, arith, bytes_eq}
 use Rattle.std.specs.Prelude.{nat_lt}
 use Rattle.std.proofs.lemmas.List.{length-map, append_assoc}
 use Rattle.fst_program.specs.Texts.{Prog}
 use Rattle.fst_program.specs.Paths.{goals_of}
 use Rattle.fst_terms.specs.declared.sequent.Var.{Var}
 use Rattle.fst_terms.specs.Meaning.{Vr, plain_var}
-use Rattle.fst_terms.specs.Same.{same_name}
-use Rattle.fst_terms.proofs.SameLemmas.{same_name-decides}
+use Rattle.std.proofs.lemmas.Slice.Eq.{bytes_eq-Decides}
 use Rattle.fst_top.specs.Printed.{counted, yes_text, count_of_name, numbered, variable_behind, variable_text}
 
 -- a test that decides equality of names is the test of the definition
-pub same-name-is : (b : Bool) (x y : List ℕ) → IsTrue b ↔ (x ≡ y) → b ≡ same_name x y
-same-name-is b x y h = go b (same_name x y) refl (λ e. h.0 e) (λ e. h.1 e)
+pub same-name-is : (b : Bool) (x y : List ℕ) → IsTrue b ↔ (x ≡ y) → b ≡ bytes_eq x y
+same-name-is b x y h = go b (bytes_eq x y) refl (λ e. h.0 e) (λ e. h.1 e)
   where
-    go : (b c : Bool) → same_name x y ≡ c → (IsTrue b → x ≡ y) → (x ≡ y → IsTrue b) → b ≡ same_name x y
+    go : (b c : Bool) → bytes_eq x y ≡ c → (IsTrue b → x ≡ y) → (x ≡ y → IsTrue b) → b ≡ bytes_eq x y
     go true true e f g = sym e
     go false false e f g = sym e
-    go true false e f g = sym ((same_name-decides x y).1 (f refl))
-    go false true e f g = g ((same_name-decides x y).0 e) ∙ sym e
+    go true false e f g = sym ((bytes_eq-Decides x y).1 (f refl))
+    go false true e f g = g ((bytes_eq-Decides x y).0 e) ∙ sym e
 
 take-map : {A B : Type 0} (f : A → B) (n : ℕ) (xs : List A) → take n (map f xs) ≡ map f (take n xs)
 take-map f zero xs = refl

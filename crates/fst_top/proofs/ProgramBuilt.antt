@@ -1,5 +1,5 @@
 -- Each elaborated program is built.
-use Rattle.std.proofs.Common.{◌≡◌, ℕ, zero, suc, false, not, ◌&&◌, ◌||◌, nat_eq, nat_le, List, [], ◌∷◌, ◌++◌, map, length, slice_get, Option, Some, None, refl, sym, ◌∙◌, subst}
+use Rattle.std.proofs.Common.{◌≡◌, ℕ, zero, suc, ◌+◌, false, not, ◌&&◌, ◌||◌, nat_eq, nat_le, List, [], ◌∷◌, ◌++◌, map, length, slice_get, Option, Some, None, refl, sym, ap, ◌∙◌, subst, arith}
 use mathlib.Core.List.{reverse_aux}
 use Rattle.fst_base.specs.Sorts.{Srt, s_unit, s_bool, same_sort}
 use Rattle.fst_base.proofs.SortLemmas.{same_sort-decides}
@@ -8,13 +8,13 @@ use Rattle.fst_terms.specs.Meaning.{Vr}
 use Rattle.fst_terms.specs.Propositional.{SortPropositional, TmPropositional, VarsPropositional}
 use Rattle.fst_program.specs.declared.effect.Effect.TheVariants as effect
 use Rattle.fst_program.specs.Texts.{Prm, Fn, Prog, if_there}
-use Rattle.fst_reader.specs.declared.decl.Decl.{Decl}
-use Rattle.fst_reader.specs.declared.decl.FunTree.{FunTree}
-use Rattle.fst_reader.specs.declared.decl.ParamTree.{ParamTree}
-use Rattle.fst_reader.specs.declared.form.Form.{Form}
-use Rattle.fst_reader.specs.declared.sort.SortTree.{SortTree, out-SortTree}
-use Rattle.fst_reader.specs.declared.sort.SortTree.TheOpen as S
-use Rattle.fst_reader.specs.declared.word.Word.{Word}
+use Rattle.fst_trees.specs.declared.decl.Decl.{Decl}
+use Rattle.fst_trees.specs.declared.decl.FunTree.{FunTree}
+use Rattle.fst_trees.specs.declared.decl.ParamTree.{ParamTree}
+use Rattle.fst_trees.specs.declared.form.Form.{Form}
+use Rattle.fst_trees.specs.declared.sort.SortTree.{SortTree, out-SortTree}
+use Rattle.fst_trees.specs.declared.sort.SortTree.TheOpen as S
+use Rattle.fst_trees.specs.declared.word.Word.{Word}
 use Rattle.fst_top.specs.Built.{CmBuilt, ParamsBuilt, ClauseBuilt, FnBuilt, IsBuilt, sorts_of, var_of}
 use Rattle.fst_top.specs.Elaboration.{Scope, clause_of, fun_decl, fun_of_tree, funs_from, is_blank, is_named, is_none, is_pure_name, most_funs, param_of, params_of_trees, program_of, result_name, scope_of, sort_layer, sort_of_tree, term_of, text_of, where_none}
 use Rattle.fst_top.proofs.TypingLemmas.{sorts, some-given, some-only, some-same}
@@ -111,6 +111,20 @@ fun-built k f g e =
       body = subst (λ Ss. CmBuilt Ss text.0.text T) (scope-sorts ps) (subst (CmBuilt (sorts (scope_of ps)) text.0.text) ((same_sort-decides text.0.sort T).0 fits.0) typed.text);
     })
 
+pub fun-group : (k : ℕ) (f : FunTree Word) (g : Fn) → fun_of_tree k f ≡ Some g → g.group ≡ k
+fun-group k f g e =
+    let head = some-only (is_pure_name f.head.effect && is_none f.head.measures && nat_eq f.head.«unfold» 1 && not f.joined) _ g e in
+    let params = some-given (params_of_trees [] f.head.params) _ g head.1 in
+    let ps = params.0 in
+    let sort = some-given (sort_of_tree f.head.sort) _ g params.1.1 in
+    let T = sort.0 in
+    let needs = some-given (clause_of f.head.needs (scope_of ps)) _ g sort.1.1 in
+    let gives = some-given (clause_of f.head.gives (record { name = result_name; sort = T } ∷ scope_of ps)) _ g needs.1.1 in
+    let text = some-given (text_of f.body (scope_of ps)) _ g gives.1.1 in
+    let fits = some-only (same_sort text.0.sort T) _ g text.1.1 in
+    let made : record { name = f.head.name.text; place = f.head.name.at.at; params = ps; effect = effect.Pure; sort = T; needs = needs.0; gives = gives.0; measures = []; unfolds = 1; body = text.0.text; group = k } ≡ g = some-same _ g fits.1 in
+    sym (ap (λ (g : Fn). g.group) made)
+
 -- ---- programs
 
 funs-built : (k : ℕ) (met : List (List ℕ)) (ds : List (Decl Word)) (fs : List Fn) → funs_from k met ds ≡ Some fs → (i : ℕ) (f : Fn) → slice_get fs i ≡ Some f → FnBuilt f
@@ -132,6 +146,25 @@ funs-built k met (d ∷ ds) fs e i f at =
     go g gs zero at h later = subst FnBuilt (some-same _ f at) h
     go g gs (suc i) at h later = later i f at
 
+funs-group : (k : ℕ) (met : List (List ℕ)) (ds : List (Decl Word)) (fs : List Fn) → funs_from k met ds ≡ Some fs → (i : ℕ) (f : Fn) → slice_get fs i ≡ Some f → f.group ≡ k + i
+funs-group k met [] fs e i f at = go fs (some-same [] fs e) i at
+  where
+    go : (fs : List Fn) → [] ≡ fs → (i : ℕ) → slice_get fs i ≡ Some f → f.group ≡ k + i
+    go [] e zero at = cc
+    go [] e (suc i) at = cc
+    go (g ∷ gs) e i at = cc
+funs-group k met (d ∷ ds) fs e i f at =
+    let tree = some-given (fun_decl d) _ fs e in
+    let one = some-given (fun_of_tree k tree.0) _ fs tree.1.1 in
+    let fresh = some-only (not (is_named one.0.name met)) _ fs one.1.1 in
+    let more = some-given (funs_from (suc k) (met ++ one.0.name ∷ []) ds) _ fs fresh.1 in
+    let all : one.0 ∷ more.0 ≡ fs = some-same _ fs more.1.1 in
+    go one.0 more.0 i (subst (λ gs. slice_get gs i ≡ Some f) (sym all) at) (fun-group k tree.0 one.0 one.1.0) (funs-group (suc k) (met ++ one.0.name ∷ []) ds more.0 more.1.0)
+  where
+    go : (g : Fn) (gs : List Fn) (i : ℕ) → slice_get (g ∷ gs) i ≡ Some f → g.group ≡ k → ((i : ℕ) (f : Fn) → slice_get gs i ≡ Some f → f.group ≡ suc k + i) → f.group ≡ k + i
+    go g gs zero at h later = let q : g.group ≡ f.group = ap (λ (g : Fn). g.group) (some-same _ f at) in omega (arith, q, h)
+    go g gs (suc i) at h later = let q : f.group ≡ suc k + i = later i f at in omega (arith, q)
+
 -- the functions of a program that isn't erased
 fun-there : (fs : List Fn) (k : ℕ) → if_there (slice_get (map Some fs) k) (λ (f : Option Fn). f) None ≡ slice_get fs k
 fun-there [] zero = refl
@@ -144,4 +177,4 @@ program-built ds P e =
     let few = some-only (nat_le (length ds) most_funs) _ P e in
     let funs = some-given (funs_from 0 [] ds) _ P few.1 in
     let made : record { effects = []; lifts = []; funs = map Some funs.0 } ≡ P = some-same _ P funs.1.1 in
-    subst IsBuilt made (record { effects = refl; lifts = refl; funs = λ k f at. funs-built 0 [] ds funs.0 funs.1.0 k f (sym (fun-there funs.0 k) ∙ at) })
+    subst IsBuilt made (record { effects = refl; lifts = refl; funs = λ k f at. funs-built 0 [] ds funs.0 funs.1.0 k f (sym (fun-there funs.0 k) ∙ at); groups = λ k f at. let h = funs-group 0 [] ds funs.0 funs.1.0 k f (sym (fun-there funs.0 k) ∙ at) in omega (arith, h) })

@@ -1,5 +1,5 @@
 -- Runs of the first programs end after a number of units, and erasure keeps them.
-use Rattle.std.proofs.Common.{◌≡◌, ◌⊎◌, inl, inr, ℕ, zero, suc, ◌+◌, ◌<◌, ◌≤◌, Bool, true, false, if◌then◌else◌, List, [], ◌∷◌, ◌++◌, map, reverse, filter, not, length, get_or, slice_get, Option, Some, None, option_map, refl, sym, ap, ap₂, ◌∙◌, subst, arith}
+use Rattle.std.proofs.Common.{◌≡◌, ◌⊎◌, inl, inr, ℕ, zero, suc, ◌+◌, ◌<◌, ◌≤◌, Bool, true, false, if◌then◌else◌, List, [], ◌∷◌, ◌++◌, map, reverse, filter, not, length, get_or, slice_get, Option, Some, None, option_map, IsTrue, refl, sym, ap, ap₂, ◌∙◌, subst, arith}
 use Rattle.std.specs.Prelude.{⊤}
 use Rattle.std.proofs.lemmas.List.Quantifiers.{position-Some}
 use Rattle.std.proofs.lemmas.Option.{slice_get-get_or}
@@ -17,9 +17,9 @@ use Rattle.fst_program.specs.Runs.{Outcome, Done, Out, Wide, Stuck, spend, then_
 use Rattle.fst_program.specs.Erasure.{Scope, kept, erased_term, erased_text, erased_param, erased_fun, unless_ghost, erased, erased_run}
 use Rattle.fst_program.specs.Entry.{is_main, main_of}
 use Rattle.fst_program.specs.Good.{body_run}
-use Rattle.fst_machine.specs.Answering.{code_run}
-use Rattle.fst_machine.specs.First.{TermFirst, TextFirst, IsFirst}
-use Rattle.fst_machine.proofs.FirstLemmas.{propositional-first}
+use Rattle.fst_machine.specs.CodeRuns.{code_run}
+use Rattle.fst_top.specs.First.{TermFirst, TextFirst, IsFirst}
+use Rattle.fst_code.specs.Sound.{is_there}
 use Rattle.fst_top.specs.Built.{CmBuilt, ParamsBuilt, FnBuilt, IsBuilt, sorts_of}
 use Rattle.fst_top.specs.Code.{without_clauses}
 
@@ -142,27 +142,35 @@ first-outcome P k F vs h = go (fun_at P k) h
         let ends = first-ends f.body (reverse vs) v_unit h in
         split ends.units ends.result _ (ends.takes (λ k vs. v_unit) P (ghost_run (λ k vs. v_unit) P 0) (calls (λ k vs. v_unit) P (ghost_run (λ k vs. v_unit) P 0) F true) true F)
 
-pub never-wide : (P Q : Prog) (k j F : ℕ) (vs ws : List Val) → IsFirst P k → Q ≡ P → j ≡ k → ws ≡ vs → code_run Q j F ws v_unit ≡ Wide → ⊥
-never-wide P Q k j F vs ws h p q r e = go (first-outcome P k F vs h)
+pub never-wide : (P Q : Prog) (k j F : ℕ) (vs ws : List Val) (s : Val) → IsFirst P k → Q ≡ P → j ≡ k → ws ≡ vs → s ≡ v_unit → code_run Q j F ws s ≡ Wide → ⊥
+never-wide P Q k j F vs ws s h p q r i e = go (first-outcome P k F vs h)
   where
     wide : code_run P k F vs v_unit ≡ Wide
-    wide = rw (sym p, sym q, sym r) e
+    wide = subst (λ s. code_run P k F vs s ≡ Wide) i (rw (sym p, sym q, sym r) e)
 
     go : (code_run P k F vs v_unit ≡ Out) ⊎ ((v : Val) × ((left : ℕ) × (code_run P k F vs v_unit ≡ Done v left))) → ⊥
     go (inl o) = let wrong : Out ≡ Wide = sym o ∙ wide in cc (wrong)
     go (inr d) = let wrong : Done d.0 d.1.0 ≡ Wide = sym d.1.1 ∙ wide in cc (wrong)
 
-pub never-stuck : (P Q : Prog) (k j F : ℕ) (vs ws : List Val) (at : ℕ) → IsFirst P k → Q ≡ P → j ≡ k → ws ≡ vs → code_run Q j F ws v_unit ≡ Stuck at → ⊥
-never-stuck P Q k j F vs ws at h p q r e = go (first-outcome P k F vs h)
+pub never-stuck : (P Q : Prog) (k j F : ℕ) (vs ws : List Val) (s : Val) (at : ℕ) → IsFirst P k → Q ≡ P → j ≡ k → ws ≡ vs → s ≡ v_unit → code_run Q j F ws s ≡ Stuck at → ⊥
+never-stuck P Q k j F vs ws s at h p q r i e = go (first-outcome P k F vs h)
   where
     stuck : code_run P k F vs v_unit ≡ Stuck at
-    stuck = rw (sym p, sym q, sym r) e
+    stuck = subst (λ s. code_run P k F vs s ≡ Stuck at) i (rw (sym p, sym q, sym r) e)
 
     go : (code_run P k F vs v_unit ≡ Out) ⊎ ((v : Val) × ((left : ℕ) × (code_run P k F vs v_unit ≡ Done v left))) → ⊥
     go (inl o) = let wrong : Out ≡ Stuck at = sym o ∙ stuck in cc (wrong)
     go (inr d) = let wrong : Done d.0 d.1.0 ≡ Stuck at = sym d.1.1 ∙ stuck in cc (wrong)
 
 -- ---- built text
+
+propositional-first : (Ss : List Srt) (t : Tm) (S : Srt) → TmPropositional Ss t S → TermFirst t
+propositional-first Ss (t_var i) S h = tt
+propositional-first Ss (t_bool b) S h = tt
+propositional-first Ss t_unit S h = tt
+propositional-first Ss (t_prim op.Eq T (t_more t (t_more u t_end)) at) S h = (propositional-first Ss t h.2.0 h.2.1.1, propositional-first Ss u h.2.0 h.2.1.2)
+propositional-first Ss (t_if c t u) S h = (propositional-first Ss c _ h.1, propositional-first Ss t _ h.2, propositional-first Ss u _ h.3)
+propositional-first Ss t S h = absurd h
 
 pub built-first : (Ss : List Srt) (c : Cm) (S : Srt) → CmBuilt Ss c S → TextFirst c
 built-first Ss (c_ret t) S h = propositional-first Ss t S h
@@ -236,6 +244,13 @@ erased-there P k f built e = map-there (unless_ghost P) P.funs k f e ∙ fun-era
 
 pub erased-first : (P : Prog) (k : ℕ) (f : Fn) → IsBuilt P → fun_at P k ≡ Some f → IsFirst (erased P) k
 erased-first P k f built e = subst (λ o. if_there o (λ g. TextFirst g.body) ⊥) (sym (erased-there P k f built e)) (built-first (sorts_of f.params) f.body f.sort (built.funs k f e).body)
+
+pub first-there : (P : Prog) (k : ℕ) → IsFirst P k → IsTrue (is_there P k)
+first-there P k h = go (fun_at P k) h
+  where
+    go : (o : Option Fn) → if_there o (λ f. TextFirst f.body) ⊥ → IsTrue (if_there o (λ f. true) false)
+    go None h = absurd h
+    go (Some f) h = refl
 
 -- how the runs of main on some values end
 pub main-ends : (P : Prog) (k : ℕ) (f : Fn) (vs : List Val) → IsBuilt P → fun_at P k ≡ Some f → Ends f.body (reverse vs) v_unit

@@ -1,7 +1,7 @@
 -- From the steps of a run to the answer that is due.
 use Rattle.std.proofs.Common.{◌≡◌, ◌⊎◌, inl, inr, ℕ, List, Result, Ok, Err, IfOk, sym, ap, subst}
 use Rattle.fst_base.specs.Values.{Val, v_unit}
-use Rattle.fst_machine.specs.Answering.{code_run}
+use Rattle.fst_machine.specs.CodeRuns.{code_run}
 use Rattle.fst_program.specs.Erasure.{erased, erased_run}
 use Rattle.fst_program.specs.Runs.{Outcome, Done, Out}
 use Rattle.fst_program.specs.Texts.{Prog}

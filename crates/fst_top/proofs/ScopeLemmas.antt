@@ -1,12 +1,11 @@
 -- The last variable of a name, looked for from the last one on.
-use Rattle.std.proofs.Common.{◌≡◌, ℕ, zero, suc, ◌+◌, ◌-◌, ◌<◌, ◌≤◌, Bool, true, false, if◌then◌else◌, List, [], ◌∷◌, map, reverse, length, drop, slice_get, get_or, Option, Some, None, refl, sym, ap, subst, ◌∙◌, arith}
+use Rattle.std.proofs.Common.{◌≡◌, ℕ, zero, suc, ◌+◌, ◌-◌, ◌<◌, ◌≤◌, Bool, true, false, if◌then◌else◌, List, [], ◌∷◌, map, reverse, length, drop, slice_get, get_or, Option, Some, None, refl, sym, ap, subst, ◌∙◌, arith, bytes_eq}
 use Rattle.fst_terms.specs.Terms.{t_var}
 use Rattle.fst_terms.specs.Meaning.{Vr}
-use Rattle.fst_terms.specs.Same.{same_name}
 use Rattle.std.proofs.Common.{Decides}
 use Rattle.std.proofs.lemmas.Option.{slice_get_read}
 use Rattle.std.proofs.lemmas.List.{get_or-reverse, get_or-map, length-map, length-reverse}
-use Rattle.fst_terms.proofs.SameLemmas.{same_name-decides}
+use Rattle.std.proofs.lemmas.Slice.Eq.{bytes_eq-Decides}
 use Rattle.fst_top.specs.declared.elaborate.typed.Binding.{Binding}
 use Rattle.fst_terms.specs.declared.term.Term.TheVariants as T
 use Rattle.fst_terms.proofs.PlainLemmas.{plain-term-Var}
@@ -27,11 +26,11 @@ choose-here t u b e = rw e refl
 choose-there : (t u : Option Typed) (b : Bool) → b ≡ false → (if b then t else u) ≡ u
 choose-there t u b e = rw e refl
 
-pub variable-here : (k : ℕ) (xs : List Vr) (x : Vr) (name : List ℕ) → slice_get xs k ≡ Some x → same_name x.name name ≡ true → variable k (drop k xs) name ≡ typed (t_var k) x.sort
-variable-here k xs x name q e = ap (λ ys. variable k ys name) (drop-at k xs x q) ∙ choose-here _ _ (same_name x.name name) e
+pub variable-here : (k : ℕ) (xs : List Vr) (x : Vr) (name : List ℕ) → slice_get xs k ≡ Some x → bytes_eq x.name name ≡ true → variable k (drop k xs) name ≡ typed (t_var k) x.sort
+variable-here k xs x name q e = ap (λ ys. variable k ys name) (drop-at k xs x q) ∙ choose-here _ _ (bytes_eq x.name name) e
 
-pub variable-later : (k : ℕ) (xs : List Vr) (x : Vr) (name : List ℕ) → slice_get xs k ≡ Some x → same_name x.name name ≡ false → variable k (drop k xs) name ≡ variable (suc k) (drop (suc k) xs) name
-variable-later k xs x name q e = ap (λ ys. variable k ys name) (drop-at k xs x q) ∙ choose-there _ _ (same_name x.name name) e
+pub variable-later : (k : ℕ) (xs : List Vr) (x : Vr) (name : List ℕ) → slice_get xs k ≡ Some x → bytes_eq x.name name ≡ false → variable k (drop k xs) name ≡ variable (suc k) (drop (suc k) xs) name
+variable-later k xs x name q e = ap (λ ys. variable k ys name) (drop-at k xs x q) ∙ choose-there _ _ (bytes_eq x.name name) e
 
 pub variable-end : (k : ℕ) (xs : List Vr) (name : List ℕ) → length xs ≤ k → variable k (drop k xs) name ≡ None
 variable-end k xs name h = ap (λ ys. variable k ys name) (drop-past k xs h)
@@ -51,7 +50,7 @@ turned-at bs n k b e lt q =
 
 pub step-here : (bs : List Binding) (n k : ℕ) (b : Binding) (name : List ℕ) → n ≡ length bs → k < n → b ≡ get_or bs (n - 1 - k) b → b.name.now ≡ name
     → variable 0 (reverse (map binding_var bs)) name ≡ variable k (drop k (reverse (map binding_var bs))) name → variable 0 (reverse (map binding_var bs)) name ≡ typed (t_var k) (srt_of b.sort)
-step-here bs n k b name e lt q same h = h ∙ variable-here k _ (binding_var b) name (turned-at bs n k b e lt q) ((same_name-decides b.name.now name).1 same)
+step-here bs n k b name e lt q same h = h ∙ variable-here k _ (binding_var b) name (turned-at bs n k b e lt q) ((bytes_eq-Decides b.name.now name).1 same)
 
 decided-false : {A : Type 0} (b : Bool) → Decides b A → (A → ⊥) → b ≡ false
 decided-false true d n = absurd (n (d.0 refl))
@@ -61,7 +60,7 @@ pub step-there : (bs : List Binding) (n k : ℕ) (b : Binding) (name : List ℕ)
     → variable 0 (reverse (map binding_var bs)) name ≡ variable k (drop k (reverse (map binding_var bs))) name → variable 0 (reverse (map binding_var bs)) name ≡ variable (k + 1) (drop (k + 1) (reverse (map binding_var bs))) name
 step-there bs n k b name e lt q differ h =
     let one : suc k ≡ k + 1 = omega arith in
-    h ∙ variable-later k _ (binding_var b) name (turned-at bs n k b e lt q) (decided-false _ (same_name-decides b.name.now name) differ) ∙ ap (λ m. variable m (drop m (reverse (map binding_var bs))) name) one
+    h ∙ variable-later k _ (binding_var b) name (turned-at bs n k b e lt q) (decided-false _ (bytes_eq-Decides b.name.now name) differ) ∙ ap (λ m. variable m (drop m (reverse (map binding_var bs))) name) one
 
 pub var-typed : (i k : ℕ) (S : BuiltSort) → i ≡ k → typed (t_var k) (srt_of S) ≡ Some (plain_typed (record { term = T.Var i; sort = S }))
 var-typed i k S e = ap (λ t. typed t (srt_of S)) (ap t_var (sym e) ∙ sym (plain-term-Var i))

@@ -8,13 +8,13 @@ use Rattle.fst_base.specs.Sorts.{Srt, s_bool, same_sort}
 use Rattle.fst_base.proofs.SortLemmas.{same_sort-decides}
 use Rattle.fst_terms.specs.Propositional.{SortPropositional, VarsPropositional}
 use Rattle.fst_program.specs.Texts.{c_ret, c_let, c_if}
-use Rattle.fst_reader.specs.declared.body.BodyTree.{BodyTree}
-use Rattle.fst_reader.specs.declared.body.BodyTree.TheVariants as V
-use Rattle.fst_reader.specs.declared.body.PartTree.{PartTree}
-use Rattle.fst_reader.specs.declared.form.Form.{Form}
-use Rattle.fst_reader.specs.declared.form.FormNode.TheOpen as F
-use Rattle.fst_reader.specs.declared.sort.SortTree.{SortTree}
-use Rattle.fst_reader.specs.declared.word.Word.{Word}
+use Rattle.fst_trees.specs.declared.body.BodyTree.{BodyTree}
+use Rattle.fst_trees.specs.declared.body.BodyTree.TheVariants as V
+use Rattle.fst_trees.specs.declared.body.PartTree.{PartTree}
+use Rattle.fst_trees.specs.declared.form.Form.{Form}
+use Rattle.fst_trees.specs.declared.form.FormNode.TheOpen as F
+use Rattle.fst_trees.specs.declared.sort.SortTree.{SortTree}
+use Rattle.fst_trees.specs.declared.word.Word.{Word}
 use Rattle.fst_top.specs.Built.{CmBuilt}
 use Rattle.fst_top.specs.Elaboration.{Typed, TypedText, Scope, node_layer, term_of, part_of, text_of, branch_of}
 use Rattle.fst_top.proofs.BodyInduction.{body_by_parts}

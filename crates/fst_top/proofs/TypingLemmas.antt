@@ -1,10 +1,9 @@
 -- Each elaborated term has its sort, and each elaborated program is built.
-use Rattle.std.proofs.Common.{◌≡◌, ℕ, suc, ◌+◌, Bool, true, false, if◌then◌else◌, List, [], ◌∷◌, map, slice_get, Option, Some, None, refl, sym, ap, ◌∙◌, subst, arith, ◌&&◌}
+use Rattle.std.proofs.Common.{◌≡◌, ℕ, suc, ◌+◌, Bool, true, false, if◌then◌else◌, List, [], ◌∷◌, map, slice_get, Option, Some, None, refl, sym, ap, ◌∙◌, subst, arith, ◌&&◌, bytes_eq}
 use Rattle.fst_base.specs.declared.op.Op.TheVariants as op
 use Rattle.fst_base.specs.Sorts.{Srt, s_bool, same_sort}
 use Rattle.fst_base.proofs.SortLemmas.{same_sort-decides}
 use Rattle.fst_terms.specs.Terms.{t_var, t_prim, t_if, row}
-use Rattle.fst_terms.specs.Same.{same_name}
 use Rattle.fst_terms.specs.Propositional.{SortPropositional, TmPropositional, VarsPropositional}
 use Rattle.fst_top.specs.Elaboration.{Typed, Scope, variable, typed, equation_of, if_of, given_some, only_if}
 
@@ -44,7 +43,7 @@ pub record IsFound (i : ℕ) (xs : Scope) (t : Typed) : Type 0 where
 
 found : (i : ℕ) (xs : Scope) (name : List ℕ) (t : Typed) → VarsPropositional xs → variable i xs name ≡ Some t → IsFound i xs t
 found i [] name t h e = cc
-found i (x ∷ xs) name t h e = go (same_name x.name name) (found (suc i) xs name t h.1) e
+found i (x ∷ xs) name t h e = go (bytes_eq x.name name) (found (suc i) xs name t h.1) e
   where
     go : (b : Bool) → (variable (suc i) xs name ≡ Some t → IsFound (suc i) xs t) → (if b then typed (t_var i) x.sort else variable (suc i) xs name) ≡ Some t → IsFound i (x ∷ xs) t
     go true later e =

@@ -1,5 +1,5 @@
 -- Which text and status are due for which words and bytes.
-use Rattle.std.specs.Prelude.{◌≡◌, ◌⊎◌, ℕ, ◌<◌, ◌≤◌, ◌^◌, nat_lt, nat_le, Bool, true, false, ◌&&◌, not, if◌then◌else◌, List, [], ◌∷◌, ◌++◌, length, Option, Some, None, codes, bytes_eq, ⊤}
+use Rattle.std.specs.Prelude.{◌≡◌, ◌⊎◌, ℕ, ◌<◌, ◌≤◌, ◌^◌, nat_lt, nat_le, Bool, true, false, ◌&&◌, not, if◌then◌else◌, List, [], ◌∷◌, ◌++◌, length, Option, Some, None, codes, bytes_eq}
 use Rattle.std.specs.Char.{is_ascii_digit}
 use Rattle.std.specs.List.{list_all, list_any}
 use Rattle.std.specs.Str.Parse.{digits_value}
@@ -16,9 +16,9 @@ use Rattle.fst_program.specs.Entry.{main_of}
 use Rattle.fst_program.specs.Erasure.{erased_run}
 use Rattle.fst_program.specs.Paths.{Gl, goals_of, GoalsValid}
 use Rattle.fst_program.specs.Runs.{Outcome, Done, Out}
-use Rattle.fst_reader.specs.declared.word.Word.{Word}
-use Rattle.fst_reader.specs.declared.decl.Decl.{Decl}
-use Rattle.fst_reader.specs.Program.{IsProgram, IsRefused}
+use Rattle.fst_trees.specs.declared.word.Word.{Word}
+use Rattle.fst_trees.specs.declared.decl.Decl.{Decl}
+use Rattle.fst_syntax.specs.Program.{IsProgram, IsRefused}
 use Rattle.fst_top.specs.Arguments.{AreArguments, IsBadArgument}
 use Rattle.fst_top.specs.Elaboration.{only_if, program_of}
 use Rattle.fst_top.specs.Printed.{refusal_text, plain_refusal_text, bad_argument_text, not_built_text, read_fault_text, yes_text, no_text, value_text, out_of_fuel_text}
@@ -196,29 +196,18 @@ file_of (Some (check file)) = Some file
 file_of (Some (run file fuel words)) = Some file
 file_of _ = None
 
--- holds of the bytes, where they are told
-abbrev pub OfTold : Option (List ℕ) → (List ℕ → Type 0) → Type 0
-OfTold None Q = ⊥
-OfTold (Some text) Q = Q text
-
--- the bytes of the command's file are told, where it has one
-abbrev pub IsTold : Option Command → (told : List ℕ → Option (List ℕ)) → Type 0
-IsTold (Some (check file)) told = OfTold (told file) (λ text. ⊤)
-IsTold (Some (run file fuel words)) told = OfTold (told file) (λ text. ⊤)
-IsTold _ told = ⊤
-
--- the status and the text that are due for a command over told bytes
-abbrev pub DueTo : Option Command → (told : List ℕ → Option (List ℕ)) → (status : ℕ) → (printed : List ℕ) → Type 0
-DueTo None told status printed = (status ≡ 3) × (printed ≡ plain_refusal_text rule.BadWords)
-DueTo (Some help) told status printed = (status ≡ 0) × (printed ≡ help_text)
-DueTo (Some version) told status printed = (status ≡ 0) × (printed ≡ version_text)
-DueTo (Some (check file)) told status printed = OfTold (told file) (λ text. Checked text status printed)
-DueTo (Some (run file fuel words)) told status printed = OfTold (told file) (λ text. Ran text fuel words status printed)
-DueTo (Some bad_fuel) told status printed = (status ≡ 3) × (printed ≡ plain_refusal_text rule.BadFuel)
+-- the status and the text that are due for a command, where each file has the bytes that are given
+abbrev pub DueTo : Option Command → (given : List ℕ → List ℕ) → (status : ℕ) → (printed : List ℕ) → Type 0
+DueTo None given status printed = (status ≡ 3) × (printed ≡ plain_refusal_text rule.BadWords)
+DueTo (Some help) given status printed = (status ≡ 0) × (printed ≡ help_text)
+DueTo (Some version) given status printed = (status ≡ 0) × (printed ≡ version_text)
+DueTo (Some (check file)) given status printed = Checked (given file) status printed
+DueTo (Some (run file fuel words)) given status printed = Ran (given file) fuel words status printed
+DueTo (Some bad_fuel) given status printed = (status ≡ 3) × (printed ≡ plain_refusal_text rule.BadFuel)
 
 -- those that are due for the words
-abbrev pub Due : (words : List (List ℕ)) → (told : List ℕ → Option (List ℕ)) → (status : ℕ) → (printed : List ℕ) → Type 0
-Due words told status printed = DueTo (command_of words) told status printed
+abbrev pub Due : (words : List (List ℕ)) → (given : List ℕ → List ℕ) → (status : ℕ) → (printed : List ℕ) → Type 0
+Due words given status printed = DueTo (command_of words) given status printed
 
 -- a fetch or a put failed, or memory wanted
 abbrev pub IsFault : (status : ℕ) → Type 0

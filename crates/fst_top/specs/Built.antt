@@ -39,8 +39,9 @@ pub record FnBuilt (f : Fn) : Type 0 where
   pub measures : f.measures ≡ []
   pub body : CmBuilt (sorts_of f.params) f.body f.sort
 
--- no effects, no lifts, and functions that are built
+-- no effects, no lifts, and functions that are built, each in a group of its own
 pub record IsBuilt (P : Prog) : Type 0 where
   pub effects : P.effects ≡ []
   pub lifts : P.lifts ≡ []
   pub funs : (k : ℕ) (f : Fn) → fun_at P k ≡ Some f → FnBuilt f
+  pub groups : (k : ℕ) (f : Fn) → fun_at P k ≡ Some f → f.group ≡ k

@@ -1,33 +1,32 @@
 -- The program that a tree is, for the first programs (PURE functions over bool and unit, without calls): indices for names, and a sort
 -- for each term; None where the tree holds something that isn't built, a name isn't in scope or is declared twice, or a term doesn't fit
 -- its sort.
-use Rattle.std.specs.Prelude.{ℕ, suc, nat_le, nat_eq, Bool, true, false, ◌&&◌, ◌||◌, not, if◌then◌else◌, List, [], ◌∷◌, ◌++◌, map, reverse, length, codes, Option, Some, None}
+use Rattle.std.specs.Prelude.{ℕ, suc, nat_le, nat_eq, Bool, true, false, ◌&&◌, ◌||◌, not, if◌then◌else◌, List, [], ◌∷◌, ◌++◌, map, reverse, length, codes, Option, Some, None, bytes_eq}
 use Rattle.fst_base.specs.declared.op.Op.{Op}
 use Rattle.fst_base.specs.declared.op.Op.TheVariants as op
 use Rattle.fst_base.specs.declared.place.Pos.{Pos}
 use Rattle.fst_base.specs.Sorts.{Srt, s_unit, s_bool, same_sort}
 use Rattle.fst_terms.specs.Terms.{Tm, t_var, t_bool, t_unit, t_prim, t_if, row}
 use Rattle.fst_terms.specs.Meaning.{Vr}
-use Rattle.fst_terms.specs.Same.{same_name}
 use Rattle.fst_program.specs.declared.effect.Effect.TheVariants as effect
 use Rattle.fst_program.specs.Texts.{Cm, c_ret, c_let, c_if, Prm, Fn, Prog}
-use Rattle.fst_reader.specs.declared.word.Word.{Word}
-use Rattle.fst_reader.specs.declared.form.Form.{Form}
-use Rattle.fst_reader.specs.declared.form.FormNode.{fold-FormNode}
-use Rattle.fst_reader.specs.declared.form.FormNode.TheOpen as F
-use Rattle.fst_reader.specs.declared.form.FormNode.TheVariants as V
-use Rattle.fst_reader.specs.declared.body.BodyTree.{BodyTree, fold-BodyTree}
-use Rattle.fst_reader.specs.declared.body.BodyTree.TheOpen as B
-use Rattle.fst_reader.specs.declared.body.PartTree.{PartTree}
-use Rattle.fst_reader.specs.declared.body.PartNode.{fold-PartNode}
-use Rattle.fst_reader.specs.declared.sort.SortTree.{SortTree, out-SortTree}
-use Rattle.fst_reader.specs.declared.sort.SortTree.TheOpen as S
-use Rattle.fst_reader.specs.declared.decl.EffectName.{EffectName}
-use Rattle.fst_reader.specs.declared.decl.EffectName.TheVariants as E
-use Rattle.fst_reader.specs.declared.decl.ParamTree.{ParamTree}
-use Rattle.fst_reader.specs.declared.decl.FunTree.{FunTree}
-use Rattle.fst_reader.specs.declared.decl.Decl.{Decl}
-use Rattle.fst_reader.specs.declared.decl.Decl.TheVariants as D
+use Rattle.fst_trees.specs.declared.word.Word.{Word}
+use Rattle.fst_trees.specs.declared.form.Form.{Form}
+use Rattle.fst_trees.specs.declared.form.FormNode.{fold-FormNode}
+use Rattle.fst_trees.specs.declared.form.FormNode.TheOpen as F
+use Rattle.fst_trees.specs.declared.form.FormNode.TheVariants as V
+use Rattle.fst_trees.specs.declared.body.BodyTree.{BodyTree, fold-BodyTree}
+use Rattle.fst_trees.specs.declared.body.BodyTree.TheOpen as B
+use Rattle.fst_trees.specs.declared.body.PartTree.{PartTree}
+use Rattle.fst_trees.specs.declared.body.PartNode.{fold-PartNode}
+use Rattle.fst_trees.specs.declared.sort.SortTree.{SortTree, out-SortTree}
+use Rattle.fst_trees.specs.declared.sort.SortTree.TheOpen as S
+use Rattle.fst_trees.specs.declared.decl.EffectName.{EffectName}
+use Rattle.fst_trees.specs.declared.decl.EffectName.TheVariants as E
+use Rattle.fst_trees.specs.declared.decl.ParamTree.{ParamTree}
+use Rattle.fst_trees.specs.declared.decl.FunTree.{FunTree}
+use Rattle.fst_trees.specs.declared.decl.Decl.{Decl}
+use Rattle.fst_trees.specs.declared.decl.Decl.TheVariants as D
 
 -- goes on with what is there
 abbrev pub given_some : {A B : Type 0} → Option A → (A → Option B) → Option B
@@ -56,7 +55,7 @@ Scope = List Vr
 -- the last variable of the name, where the first one looked at has index i
 abbrev pub variable : (i : ℕ) → Scope → (name : List ℕ) → Option Typed
 variable i [] name = None
-variable i (x ∷ xs) name = if same_name x.name name then typed (t_var i) x.sort else variable (suc i) xs name
+variable i (x ∷ xs) name = if bytes_eq x.name name then typed (t_var i) x.sort else variable (suc i) xs name
 
 -- an equation has sides of one sort
 abbrev pub equation_of : (place : ℕ) → Typed → Typed → Option Typed
@@ -129,11 +128,11 @@ sort_of_tree tree = sort_layer (out-SortTree Word tree)
 -- the name is one of these
 abbrev pub is_named : (name : List ℕ) → List (List ℕ) → Bool
 is_named x [] = false
-is_named x (y ∷ ys) = if same_name x y then true else is_named x ys
+is_named x (y ∷ ys) = if bytes_eq x y then true else is_named x ys
 
 -- the name binds nothing
 abbrev pub is_blank : (name : List ℕ) → Bool
-is_blank x = same_name x (codes "_")
+is_blank x = bytes_eq x (codes "_")
 
 -- where nothing stands
 abbrev pub where_none : {A B : Type 0} → Option A → Option B → Option B

@@ -7,10 +7,10 @@ use Rattle.fst_program.specs.declared.fun.Fun.{Fun}
 use Rattle.fst_program.specs.declared.fun.Param.{Param}
 use Rattle.fst_program.specs.Plain.{plain_comp, plain_fun, plain_param}
 use Rattle.fst_program.specs.Texts.{Cm, Prm, Fn}
-use Rattle.fst_reader.specs.declared.decl.Decl.{Decl}
-use Rattle.fst_reader.specs.declared.decl.FunTree.{FunTree}
-use Rattle.fst_reader.specs.declared.decl.ParamTree.{ParamTree}
-use Rattle.fst_reader.specs.declared.word.Word.{Word}
+use Rattle.fst_trees.specs.declared.decl.Decl.{Decl}
+use Rattle.fst_trees.specs.declared.decl.FunTree.{FunTree}
+use Rattle.fst_trees.specs.declared.decl.ParamTree.{ParamTree}
+use Rattle.fst_trees.specs.declared.word.Word.{Word}
 use Rattle.fst_top.specs.declared.elaborate.functions.Parts as R
 use Rattle.fst_top.specs.declared.elaborate.typed.Binding.{Binding}
 use Rattle.fst_top.specs.declared.elaborate.scope.Scope as S

@@ -13,6 +13,8 @@ pub mod Code
 pub mod Answering
 pub mod Commands
 pub mod Outcomes
+pub mod Promises
 pub mod Functions
 pub mod Goals
 pub mod Ways
+pub mod First

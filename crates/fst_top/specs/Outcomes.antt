@@ -1,7 +1,7 @@
 -- What the steps of the top call give.
 use Rattle.std.specs.Prelude.{◌≡◌, ◌⊎◌, ◌<◌, ℕ, List, Option, Some, None, take}
 use Rattle.fst_outside.specs.Outside.{Rose, with_name, with_piece}
-use Rattle.fst_top.specs.Answers.{Command, file_of, IsTold, DueTo}
+use Rattle.fst_top.specs.Answers.{Command, file_of, DueTo}
 use Rattle.fst_top.specs.Printed.{read_fault_text}
 use Rattle.fst_top.specs.declared.status.Status.{Status}
 use Rattle.fst_top.specs.declared.status.Status.TheVariants as status
@@ -15,8 +15,8 @@ abbrev pub SaysFault : Option Command → (failed : Type 0) → (status : ℕ) �
 SaysFault c failed status printed = failed × (status ≡ 7) × (printed ≡ read_fault_text)
 
 -- the answer says that a fetch failed, or it is the one that is due
-abbrev pub Given : Option Command → (told : List ℕ → Option (List ℕ)) → (failed : Type 0) → (status : ℕ) → (printed : List ℕ) → Type 0
-Given c told failed status printed = SaysFault c failed status printed ⊎ ((status < 7) × (IsTold c told → DueTo c told status printed))
+abbrev pub Given : Option Command → (given : List ℕ → List ℕ) → (failed : Type 0) → (status : ℕ) → (printed : List ℕ) → Type 0
+Given c given failed status printed = SaysFault c failed status printed ⊎ ((status < 7) × DueTo c given status printed)
 
 -- a put wrote the text, or a front of it and failed, or nothing for want of memory
 abbrev pub Delivered : (old new : Option (List ℕ)) → (failed : Type 0) → (text : List ℕ) → (wanted ended : Status) → Type 0

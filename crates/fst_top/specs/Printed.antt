@@ -1,5 +1,5 @@
 -- Printed texts: places, refusals, goals and branches.
-use Rattle.std.specs.Prelude.{ℕ, suc, ◌+◌, ◌-◌, nat_lt, nat_eq, List, [], ◌∷◌, ◌++◌, length, take, slice_get, Option, Some, None, codes, if◌then◌else◌}
+use Rattle.std.specs.Prelude.{ℕ, suc, ◌+◌, ◌-◌, nat_lt, nat_eq, List, [], ◌∷◌, ◌++◌, length, take, slice_get, Option, Some, None, codes, if◌then◌else◌, bytes_eq}
 use Rattle.std.specs.Fmt.{decimal}
 use Rattle.fst_base.specs.Place.{line, column}
 use Rattle.fst_base.specs.declared.rule.Rule.{Rule}
@@ -7,7 +7,6 @@ use Rattle.fst_base.specs.declared.rule.Rule.TheVariants as rule
 use Rattle.fst_base.specs.Values.{Val}
 use Rattle.fst_terms.specs.Terms.{Tm, t_var}
 use Rattle.fst_terms.specs.Meaning.{Vr}
-use Rattle.fst_terms.specs.Same.{same_name}
 use Rattle.fst_terms.specs.declared.flat.Mark.{Mark}
 use Rattle.fst_terms.specs.declared.flat.Mark.TheVariants as mark
 use Rattle.fst_program.specs.declared.comp.Con.{Con}
@@ -133,7 +132,7 @@ site_text P g text = kind_text g.kind ++ codes " of " ++ name_of_fun P g.fun ++ 
 -- how many of these variables have the name
 abbrev pub count_of_name : (name : List ℕ) → List Vr → ℕ
 count_of_name x [] = 0
-count_of_name x (y ∷ ys) = if same_name y.name x then suc (count_of_name x ys) else count_of_name x ys
+count_of_name x (y ∷ ys) = if bytes_eq y.name x then suc (count_of_name x ys) else count_of_name x ys
 
 -- the name of a variable after so many variables of that name; what binds nothing has no number
 abbrev pub numbered : (name : List ℕ) → (before : ℕ) → List ℕ

@@ -4,7 +4,6 @@
 mod arguments;
 mod branches;
 mod checking;
-mod coding;
 mod elaborate;
 mod goals;
 mod judging;

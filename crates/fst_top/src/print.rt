@@ -6,5 +6,5 @@ mod number;
 mod refusals;
 mod report;
 
-pub use refusals::{bad_argument, not_built, plain_refusal, read_fault, refusal};
-pub use report::{help, no, out_of_fuel, value, version, yes};
+pub use refusals::{bad_argument, plain_refusal, refusal};
+pub use report::{help, no, value, version, yes};

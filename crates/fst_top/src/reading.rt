@@ -1,11 +1,10 @@
 //! The program of a file.
 
-ghost use Rattle.std.specs.Prelude.{◌≡◌, ◌≤◌, length, IfOk};
+ghost use Rattle.std.specs.Prelude.{◌≤◌, length, IfOk};
 ghost use Rattle.fst_program.specs.Plain.{plain_program};
-ghost use Rattle.fst_reader.specs.Program.{IsProgram, IsRefused};
+ghost use Rattle.fst_syntax.specs.Program.{IsProgram, IsRefused};
 ghost use Rattle.fst_top.specs.Answers.{longest};
 ghost use Rattle.fst_top.specs.Answering.{IsRead};
-ghost use Rattle.fst_top.specs.Printed.{not_built_text};
 
 use crate::elaborate::{Stop, elaborate_program};
 use crate::print;
@@ -22,6 +21,9 @@ pub enum Reading {
     Program(Program),
     Refused(Answer),
 }
+
+/// What is said of a file that isn't one of the first programs.
+const NOT_BUILT: &[u8] = b"refused 0 NotBuilt\n";
 
 /// The program that the bytes of a file are.
 pub fn read_program(alloc: Global, text: &[u8]) -> Result<Reading, OutOfMemory>
@@ -54,22 +56,15 @@ fn elaborate(alloc: Global, text: &[u8], decls: &Seq<RawDecl>) -> Result<Reading
     ensures { IfOk result (IsRead text.now) }
 {
     if has_word(text, "unfold") {
-        return Ok(Reading::Refused(unbuilt(alloc)?));
+        return Ok(Reading::Refused(Answer::said(alloc, Status::Refused, NOT_BUILT)?));
     }
     match elaborate_program(alloc, decls.as_slice()) {
         Ok(program) => Ok(Reading::Program(program)),
-        Err(Stop::NotBuilt) => Ok(Reading::Refused(unbuilt(alloc)?)),
+        Err(Stop::NotBuilt) => Ok(Reading::Refused(Answer::said(
+            alloc,
+            Status::Refused,
+            NOT_BUILT,
+        )?)),
         Err(Stop::NoMemory) => Err(OutOfMemory),
     }
-}
-
-fn unbuilt(alloc: Global) -> Result<Answer, OutOfMemory>
-    ensures { IfOk result (λ answer. (answer.status ≡ Status.Refused) × (answer.text ≡ not_built_text)) }
-{
-    let mut printed = Seq::new(alloc);
-    print::not_built(&mut printed)?;
-    Ok(Answer {
-        status: Status::Refused,
-        text: printed,
-    })
 }

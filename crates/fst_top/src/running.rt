@@ -1,12 +1,10 @@
 //! The answer of `run` over the bytes of a file.
 
-ghost use Rattle.std.specs.Prelude.{◌≡◌, ◌≤◌, ◌<◌, ◌^◌, Some, map, length, IfOk};
+ghost use Rattle.std.specs.Prelude.{◌≡◌, ◌≤◌, ◌<◌, ◌^◌, Some, map, length, IfOk, IsTrue};
 ghost use Rattle.fst_base.specs.Values.{plain_value, v_unit};
-ghost use Rattle.fst_base.specs.declared.rule.Rule.TheVariants as rule;
 ghost use Rattle.fst_code.specs.Plain.{plain_code};
-ghost use Rattle.fst_machine.specs.Answering.{code_run};
-ghost use Rattle.fst_machine.specs.First.{IsFirst};
-ghost use Rattle.fst_machine.specs.States as m;
+ghost use Rattle.fst_code.specs.Sound.{is_sound};
+ghost use Rattle.fst_machine.specs.CodeRuns.{code_run};
 ghost use Rattle.fst_program.specs.Entry.{main_of};
 ghost use Rattle.fst_program.specs.Erasure.{erased_run};
 ghost use Rattle.fst_program.specs.Plain.{plain_fun, plain_program};
@@ -14,16 +12,17 @@ ghost use Rattle.fst_program.specs.Texts.{fun_at};
 ghost use Rattle.fst_top.specs.Built.{IsBuilt};
 ghost use Rattle.fst_top.specs.Answers.{Reads, longest};
 ghost use Rattle.fst_top.specs.Answering.{IsRunAnswer, IsProvedRun, IsEnd};
-ghost use Rattle.fst_top.specs.Printed.{bad_argument_text, out_of_fuel_text, plain_refusal_text, value_text};
+ghost use Rattle.fst_top.specs.First.{IsFirst, RunGives};
+ghost use Rattle.fst_top.specs.Printed.{bad_argument_text, value_text};
 
 use crate::arguments::{Arguments, read_arguments};
-use crate::coding::code_of;
 use crate::judging::{Judged, judge_program};
 use crate::print;
 use crate::reading::{Reading, read_program};
 use crate::status::{Answer, Status};
 use fst_base::{Name, OutOfMemory, Rule, Seq, Value};
 use fst_code::Code;
+use fst_erase::erase;
 use fst_machine::{Answer as Run, Machine};
 use fst_program::{Fun, Program};
 use std::alloc::Global;
@@ -54,7 +53,7 @@ fn run_program(
 {
     match program.main() {
         Some(main) => run_main(alloc, text, program, main, fuel, words),
-        None => no_main(alloc),
+        None => Answer::refusal(alloc, Status::BadWords, Rule::NoMain),
     }
 }
 
@@ -126,10 +125,10 @@ fn run_erased(
     requires main { main_of (plain_program program.now) ≡ Some main }
     ensures { IfOk result (IsEnd (erased_run (plain_program program.now) main fuel (map plain_value values.now) v_unit)) }
 {
-    let code = code_of(alloc, program)?;
+    let code = erase(alloc, program)?;
     match result_of(alloc, &code, main, fuel, values)? {
         Some(value) => done(alloc, &value),
-        None => out_of_fuel(alloc),
+        None => Answer::said(alloc, Status::OutOfFuel, b"out of fuel\n"),
     }
 }
 
@@ -142,8 +141,9 @@ fn result_of(
     fuel: u64,
     values: &Seq<Value>,
 ) -> Result<Option<Value>, OutOfMemory>
-    requires { IsFirst (plain_code code.now) main }
-    ensures { IfOk result (m.Ended (code_run (plain_code code.now) main fuel (map plain_value values.now) v_unit)) }
+    requires first { IsFirst (plain_code code.now) main }
+    requires sound { IsTrue (is_sound (plain_code code.now)) }
+    ensures { IfOk result (RunGives (code_run (plain_code code.now) main fuel (map plain_value values.now) v_unit)) }
 {
     let mut machine = Machine::new(alloc, code, main, values, None)?;
     match machine.run(alloc, fuel) {
@@ -162,28 +162,6 @@ fn done(alloc: Global, value: &Value) -> Result<Answer, OutOfMemory>
     print::value(value, &mut text)?;
     Ok(Answer {
         status: Status::Done,
-        text,
-    })
-}
-
-fn out_of_fuel(alloc: Global) -> Result<Answer, OutOfMemory>
-    ensures { IfOk result (λ a. (a.status ≡ Status.OutOfFuel) × (a.text ≡ out_of_fuel_text)) }
-{
-    let mut text = Seq::new(alloc);
-    print::out_of_fuel(&mut text)?;
-    Ok(Answer {
-        status: Status::OutOfFuel,
-        text,
-    })
-}
-
-fn no_main(alloc: Global) -> Result<Answer, OutOfMemory>
-    ensures { IfOk result (λ a. (a.status ≡ Status.BadWords) × (a.text ≡ plain_refusal_text rule.NoMain)) }
-{
-    let mut text = Seq::new(alloc);
-    print::plain_refusal(Rule::NoMain, &mut text)?;
-    Ok(Answer {
-        status: Status::BadWords,
         text,
     })
 }

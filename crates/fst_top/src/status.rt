@@ -1,7 +1,10 @@
-ghost use Rattle.std.specs.Prelude.{◌≡◌};
+ghost use Rattle.std.specs.Prelude.{◌≡◌, IfOk};
+ghost use Rattle.fst_top.specs.Printed.{plain_refusal_text};
 ghost use Rattle.fst_top.specs.Statuses.{number_of};
 
-use fst_base::Seq;
+use crate::print;
+use fst_base::{OutOfMemory, Rule, Seq};
+use std::alloc::Global;
 
 /// How a command ended.
 #[derive(Clone, Copy, Debug, PartialEq, Eq)]
@@ -39,4 +42,23 @@ impl Status {
 pub struct Answer {
     pub status: Status,
     pub text: Seq<u8>,
+}
+
+impl Answer {
+    /// The answer with this text.
+    pub fn said(alloc: Global, status: Status, text: &[u8]) -> Result<Answer, OutOfMemory>
+        ensures { IfOk result (λ a. (a.status ≡ status) × (a.text ≡ text.now)) }
+    {
+        let text = Seq::from_slice(alloc, text)?;
+        Ok(Answer { status, text })
+    }
+
+    /// The answer that says of a rule that it is broken, at no place.
+    pub fn refusal(alloc: Global, status: Status, rule: Rule) -> Result<Answer, OutOfMemory>
+        ensures { IfOk result (λ a. (a.status ≡ status) × (a.text ≡ plain_refusal_text rule)) }
+    {
+        let mut text = Seq::new(alloc);
+        print::plain_refusal(rule, &mut text)?;
+        Ok(Answer { status, text })
+    }
 }

@@ -8,8 +8,6 @@ mod parts;
 mod print;
 mod read;
 mod reader;
-#[cfg(test)]
-mod tests;
 mod values;
 
 pub use fault::ValueFault;

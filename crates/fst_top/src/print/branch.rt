@@ -1,8 +1,7 @@
-ghost use Rattle.std.specs.Prelude.{◌≡◌, ◌≤◌, ◌++◌, map, length, take, slice_get, OnOk};
+ghost use Rattle.std.specs.Prelude.{◌≡◌, ◌≤◌, ◌++◌, map, length, take, slice_get, OnOk, bytes_eq};
 ghost use Rattle.fst_terms.specs.Meaning.{plain_var};
 ghost use Rattle.fst_terms.specs.Terms.{plain_term};
 ghost use Rattle.fst_terms.specs.Flats.{plain_flat};
-ghost use Rattle.fst_terms.specs.Same.{same_name};
 ghost use Rattle.fst_top.specs.Elaboration.{is_blank};
 ghost use Rattle.fst_top.specs.Printed.{count_of_name, numbered, variable_behind, variable_text, atom_text, mark_text, marked_text, marks_text, branch_text};
 
@@ -22,7 +21,7 @@ fn mark_text(mark: Mark) -> &'static [u8]
 }
 
 fn same_name(a: &Name, b: &Name) -> bool
-    ensures { result ≡ same_name a.now b.now }
+    ensures { result ≡ bytes_eq a.now b.now }
 {
     a.same(b)
 }

@@ -1,5 +1,5 @@
 ghost use Rattle.std.specs.Prelude.{◌≡◌, ◌≤◌, ◌<◌, ◌+◌, ◌^◌, ◌++◌, length, OnOk};
-ghost use Rattle.fst_top.specs.Printed.{rule_text, refusal_text, plain_refusal_text, bad_argument_text, not_built_text, read_fault_text};
+ghost use Rattle.fst_top.specs.Printed.{rule_text, refusal_text, plain_refusal_text, bad_argument_text};
 
 use crate::print::number::{print_number, print_place};
 use fst_base::{OutOfMemory, Pos, Rule, Seq};
@@ -63,16 +63,4 @@ pub fn bad_argument(word: u128, out: &mut Seq<u8>) -> Result<(), OutOfMemory>
     out.extend_from_slice(b" ")?;
     print_number(word, out)?;
     out.extend_from_slice(b"\n")
-}
-
-pub fn not_built(out: &mut Seq<u8>) -> Result<(), OutOfMemory>
-    ensures { OnOk result (out.new ≡ out.old ++ not_built_text) }
-{
-    out.extend_from_slice(b"refused 0 NotBuilt\n")
-}
-
-pub fn read_fault(out: &mut Seq<u8>) -> Result<(), OutOfMemory>
-    ensures { OnOk result (out.new ≡ out.old ++ read_fault_text) }
-{
-    out.extend_from_slice(b"read fault\n")
 }

@@ -4,7 +4,7 @@ ghost use Rattle.fst_program.specs.Paths.{plain_goal, goals_of};
 ghost use Rattle.fst_program.specs.Plain.{plain_program};
 ghost use Rattle.fst_top.specs.Help.{help_text, usage_text, statuses_text, version_text};
 ghost use Rattle.fst_base.specs.Values.{plain_value};
-ghost use Rattle.fst_top.specs.Printed.{counted, yes_text, no_text, value_text, out_of_fuel_text};
+ghost use Rattle.fst_top.specs.Printed.{counted, yes_text, no_text, value_text};
 
 use crate::print::branch::print_branch;
 use crate::print::goal::{print_path, print_site};
@@ -68,12 +68,6 @@ pub fn value(value: &Value, out: &mut Seq<u8>) -> Result<(), OutOfMemory>
     out.extend_from_slice(b"\n")
 }
 
-pub fn out_of_fuel(out: &mut Seq<u8>) -> Result<(), OutOfMemory>
-    ensures { OnOk result (out.new ≡ out.old ++ out_of_fuel_text) }
-{
-    out.extend_from_slice(b"out of fuel\n")
-}
-
 pub fn help(out: &mut Seq<u8>) -> Result<(), OutOfMemory>
     ensures { OnOk result (out.new ≡ out.old ++ help_text) }
 {
@@ -86,7 +80,7 @@ fn print_usage(out: &mut Seq<u8>) -> Result<(), OutOfMemory>
     ensures { OnOk result (out.new ≡ out.old ++ usage_text) }
 {
     out.extend_from_slice(
-        b"fstar: a checker and runner for a first-order core of F* with user-defined effects\n\nfstar check FILE                proves the functions of the file\nfstar run FILE FUEL ARGUMENTS   proves them, then runs main with so many units of fuel\nfstar --help                    prints this text\nfstar --version                 prints the version\n\n",
+        b"fstar: a checker and runner for a first-order core of F* with user-defined effects\n\nfstar check FILE                proves the functions of the file\nfstar run FILE FUEL ARGUMENTS   proves them, then runs main with so many units of fuel\nfstar --help                    prints this text\nfstar --version                 prints the version and the kit\n./fstar --prove                 in a checkout: proves and builds the program\n\n",
     )
 }
 
@@ -94,7 +88,7 @@ fn print_statuses(out: &mut Seq<u8>) -> Result<(), OutOfMemory>
     ensures { OnOk result (out.new ≡ out.old ++ statuses_text) }
 {
     out.extend_from_slice(
-        b"exit statuses: 0 done, 1 not proved, 2 the file is refused, 3 the words are refused,\n4 out of fuel, 7 the file can't be read, 8 the text can't be written, 10 no memory\n\n",
+        b"exit statuses: 0 done, 1 not proved, 2 the file is refused, 3 the words are refused,\n4 out of fuel, 7 the file can't be read, 8 the text can't be written, 10 no memory;\n70 the script ./fstar itself failed\n\n",
     )
 }
 

@@ -1,6 +1,6 @@
 use Rattle.std.proofs.Common.{◌≡◌, ◌≤◌, ◌+◌, length, map}
-use Rattle.fst_reader.specs.Tokens.{token_of}
-use Rattle.fst_reader.specs.Limits.{first_limit, limit_from}
+use Rattle.fst_syntax.specs.Tokens.{token_of}
+use Rattle.fst_syntax.specs.Limits.{first_limit, limit_from}
 use Rattle.fst_reader.proofs.limits.first_limit.Given as goal
 
 abbrev pub invariant-tokens : goal.invariant-tokens

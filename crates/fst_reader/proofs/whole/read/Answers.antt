@@ -1,10 +1,10 @@
 use Rattle.std.proofs.Common.{◌≡◌, ◌≤◌, ◌^◌, length, map, Some, ◌∙◌, ap, subst, sym, arith}
 use Rattle.std.proofs.lemmas.Bool.Decides.{nat_tests}
-use Rattle.fst_reader.specs.Tokens.{token_of}
-use Rattle.fst_reader.specs.Lexemes.{lexemes}
-use Rattle.fst_reader.specs.Limits.{first_limit}
-use Rattle.fst_reader.specs.Program.{Rising}
-use Rattle.fst_reader.specs.declared.decl.RawProgram.{RawProgram}
+use Rattle.fst_syntax.specs.Tokens.{token_of}
+use Rattle.fst_syntax.specs.Lexemes.{lexemes}
+use Rattle.fst_syntax.specs.Limits.{first_limit}
+use Rattle.fst_syntax.specs.Program.{Rising}
+use Rattle.fst_trees.specs.declared.decl.RawProgram.{RawProgram}
 use Rattle.fst_reader.proofs.Refusals.{refused, err_same}
 use Rattle.fst_reader.proofs.whole.read.Goals as goal
 

@@ -15,7 +15,7 @@ pub returns-in-Some-clause-fault : goal.returns-in-Some-clause-fault
 returns-in-Some-clause-fault c = λ at e. (_, (left_fault _ _ c.new-reader.ensures _ _ c.in-Ok.ensures.reads _ c.in-Some.ensures, same_place _ at e ∙ c.in-Some.ensures))
 
 pub returns-in-Err-Syntax-clause-only : goal.returns-in-Err-Syntax-clause-only
-returns-in-Err-Syntax-clause-only c = λ decls d. absurd (no_tree _ _ c.new-reader.ensures c.program.new.self (rw c.in-Err-Syntax.field-0-is at c.in-Err-Syntax.ensures.reads) decls d)
+returns-in-Err-Syntax-clause-only c = λ decls d. absurd (no_tree _ _ c.new-reader.ensures c.program.new.reader (rw c.in-Err-Syntax.field-0-is at c.in-Err-Syntax.ensures.reads) decls d)
 
 pub returns-in-Err-Syntax-clause-fault : goal.returns-in-Err-Syntax-clause-fault
-returns-in-Err-Syntax-clause-fault c = λ at e. (_, (stop_fault _ _ c.new-reader.ensures c.program.new.self (rw c.in-Err-Syntax.field-0-is at c.in-Err-Syntax.ensures.reads), same_place _ at e ∙ c.place-in-Err-Syntax.ensures))
+returns-in-Err-Syntax-clause-fault c = λ at e. (_, (stop_fault _ _ c.new-reader.ensures c.program.new.reader (rw c.in-Err-Syntax.field-0-is at c.in-Err-Syntax.ensures.reads), same_place _ at e ∙ c.place-in-Err-Syntax.ensures))

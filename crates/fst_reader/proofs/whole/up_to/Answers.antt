@@ -1,8 +1,8 @@
 use Rattle.std.proofs.Common.{◌+◌, map, Ok, sym, ap, subst, arith}
 use Rattle.std.proofs.lemmas.List.{take-map}
 use Rattle.std.proofs.lemmas.Bool.Decides.{nat_tests}
-use Rattle.fst_reader.specs.Tokens.{token_of}
-use Rattle.fst_reader.specs.Program.{FaultAt, Begins}
+use Rattle.fst_syntax.specs.Tokens.{token_of}
+use Rattle.fst_syntax.specs.Program.{FaultAt, Begins}
 use Rattle.fst_reader.proofs.Refusals.{fault_answers, limit_answers, limit_alone}
 use Rattle.fst_reader.proofs.whole.up_to.Goals as goal
 

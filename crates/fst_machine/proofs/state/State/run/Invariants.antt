@@ -1,7 +1,9 @@
-use Rattle.std.proofs.Common.{◌≡◌, ◌-◌}
-use Rattle.fst_program.specs.Texts.{Prog}
-use Rattle.fst_machine.specs.States.{IsFit, state_run}
+use Rattle.std.proofs.Common.{◌-◌, List}
+use Rattle.fst_code.specs.Plain.{plain_code}
+use Rattle.fst_machine.specs.States.{StateIs, StateIsFit}
+use Rattle.fst_machine.specs.Turns.{Tsk, Frm, machine_run}
+use Rattle.fst_machine.proofs.RunLemmas.{Reaches}
 use Rattle.fst_machine.proofs.state.State.run.Given as goal
 
 abbrev pub invariant-loop-unit : goal.invariant-loop-unit
-invariant-loop-unit l = IsFit l.self × ((P : Prog) → state_run P l.self (l.fuel - l._unit) ≡ state_run P l.fn.self l.fuel)
+invariant-loop-unit l = let P = plain_code l.code in StateIsFit P l.self × ((t : Tsk) (fs : List Frm) → StateIs l.fn.self t fs → Reaches P l.self (l.fuel - l._unit) (machine_run P l.fuel t fs))

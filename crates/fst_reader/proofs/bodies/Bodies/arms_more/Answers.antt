@@ -1,11 +1,11 @@
 use Rattle.std.proofs.Common.{◌≡◌, true, false, List, [], ◌∷◌, sym, subst, ◌∙◌, rules, arith, Err}
 use Rattle.std.proofs.lemmas.Grind.{common_steps}
-use Rattle.fst_reader.specs.declared.word.Word.{Word}
-use Rattle.fst_reader.specs.declared.pattern.ArmTree.{ArmTree}
-use Rattle.fst_reader.specs.declared.body.BodyTree.{BodyTree}
-use Rattle.fst_reader.specs.Productions as n
-use Rattle.fst_reader.specs.Reading.{Reads, reads, behind}
-use Rattle.fst_reader.proofs.Runs.{comes, arms_listed}
+use Rattle.fst_trees.specs.declared.word.Word.{Word}
+use Rattle.fst_trees.specs.declared.pattern.ArmTree.{ArmTree}
+use Rattle.fst_trees.specs.declared.body.BodyTree.{BodyTree}
+use Rattle.fst_syntax.specs.Productions as n
+use Rattle.fst_syntax.specs.Reading.{Reads, reads, behind}
+use Rattle.fst_syntax.proofs.Runs.{comes, arms_listed}
 use Rattle.fst_reader.proofs.bodies.Bodies.arms_more.Goals as goal
 
 pub returns-in_err-arm-clause-reads : goal.returns-in_err-arm-clause-reads

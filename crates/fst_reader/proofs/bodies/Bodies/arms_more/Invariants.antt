@@ -1,6 +1,6 @@
 use Rattle.std.proofs.Common.{◌≡◌, ◌≤◌, [], ◌∷◌, length}
-use Rattle.fst_reader.specs.Productions as n
-use Rattle.fst_reader.specs.Reading.{reads, behind}
+use Rattle.fst_syntax.specs.Productions as n
+use Rattle.fst_syntax.specs.Reading.{reads, behind}
 use Rattle.fst_reader.proofs.bodies.Bodies.arms_more.Given as goal
 
 abbrev pub invariant-arms : goal.invariant-arms

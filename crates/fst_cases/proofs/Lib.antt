@@ -1,0 +1,9 @@
+pub mod RefutedLemmas
+pub mod RefutationRules
+pub mod BeforeLemmas
+pub mod LeafLemmas
+pub mod ShareRules
+pub mod SearchSteps
+pub mod CoreLemmas
+pub mod ClauseLemmas
+pub mod ClashLemmas

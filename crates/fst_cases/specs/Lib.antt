@@ -1,0 +1,5 @@
+pub mod Refuting
+pub mod Leaves
+pub mod Cores
+pub mod Clauses
+pub mod CaseLaws

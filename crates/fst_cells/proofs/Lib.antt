@@ -1,0 +1,4 @@
+pub mod TreeLemmas
+pub mod MakeLemmas
+pub mod ValueLemmas
+pub mod OperandLemmas

@@ -1,0 +1,15 @@
+pub mod LogLemmas
+pub mod ClassLemmas
+pub mod ClosedLemmas
+pub mod FirstLemmas
+pub mod StepLemmas
+pub mod SweepLemmas
+pub mod ClosureLemmas
+pub mod NumberedLemmas
+pub mod HeadLemmas
+pub mod ExtractLemmas
+pub mod MakerLemmas
+pub mod GivenLemmas
+pub mod JoinedLemmas
+pub mod NumberingLemmas
+pub mod GuessLemmas

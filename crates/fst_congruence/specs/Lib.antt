@@ -1,0 +1,9 @@
+pub mod Numbered
+pub mod Joined
+pub mod Lines
+pub mod Classes
+pub mod Firsts
+pub mod Steps
+pub mod Closures
+pub mod Extracts
+pub mod Explained

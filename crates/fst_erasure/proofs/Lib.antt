@@ -1,0 +1,5 @@
+pub mod Shown
+pub mod ErasureLemmas
+pub mod ErasedSorts
+pub mod ErasedSound
+mod WorkedErasure

@@ -1,0 +1,15 @@
+pub mod PlainForms
+pub mod ArgumentLemmas
+pub mod AtomForms
+pub mod BuildingLemmas
+pub mod ClearLemmas
+pub mod FoldLemmas
+pub mod KeyLemmas
+pub mod NameLemmas
+pub mod RoundLemmas
+pub mod GatherLemmas
+pub mod ArrangementLemmas
+pub mod RelationLemmas
+pub mod DataLemmas
+pub mod SideLemmas
+pub mod StepLemmas

@@ -1,0 +1,17 @@
+use Rattle.std.proofs.Common.{rules, FitsSigned, ap, ◌∙◌}
+use Rattle.std.proofs.lemmas.Int.{to_z-of_z}
+use Rattle.std.proofs.lemmas.Result.{on_ok_weaker}
+use mir.Syntax.{w128}
+use Rattle.fst_flats.specs.Rows.{upper_facts}
+use Rattle.fst_terms.specs.Same.{firsts}
+use Rattle.fst_terms.specs.Terms.{plain_term}
+use Rattle.fst_flats.proofs.division_facts.add_bounds.Goals as goal
+
+pub returns : goal.returns
+returns c =
+    let f : FitsSigned w128 c.args.by = search rules in
+    let m = simp to_z-of_z at c.multiple.ensures in
+    let u = simp to_z-of_z at c.add_upper.ensures in
+    on_ok_weaker c.add_upper.result
+    (λ e. e ∙ ap (λ m. firsts m (upper_facts (plain_term c.args.term.now) c.args.by)) (c.in_ok-add_made.ensures _ (c.at_most.ensures _ _ m c.copied.ensures)))
+    u

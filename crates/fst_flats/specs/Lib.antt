@@ -1,0 +1,10 @@
+pub mod Keys
+pub mod Makes
+pub mod Preparing
+pub mod Arranged
+pub mod Pairs
+pub mod Relations
+pub mod Rows
+pub mod Rounds
+pub mod Sides
+pub mod Steps

@@ -1,0 +1,3 @@
+pub mod Goodness
+pub mod FunctionSentences
+pub mod Unfolding

@@ -1,0 +1,3 @@
+mod PathTables
+mod TableLemmas
+mod LatticeLemmas

@@ -1,0 +1,9 @@
+pub mod ValueLemmas
+pub mod StepLemmas
+pub mod DerivationLemmas
+pub mod PairLemmas
+pub mod AliveLemmas
+pub mod SweepLemmas
+pub mod SplitLemmas
+pub mod LiftLemmas
+pub mod StartLemmas

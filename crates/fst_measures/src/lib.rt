@@ -1,0 +1,7 @@
+//! The formula that says that measures decrease.
+#![tactic(auto)]
+
+mod formulas;
+mod measures;
+
+pub use measures::decrease;

@@ -1,0 +1,11 @@
+pub mod BrokenLemmas
+pub mod TreeLemmas
+pub mod TextTreeLemmas
+pub mod DmTreeLemmas
+pub mod ScopeLemmas
+pub mod WordLemmas
+pub mod NumberLemmas
+pub mod CheckLemmas
+pub mod CheckSortLemmas
+pub mod CheckTextLemmas
+pub mod CheckDmLemmas

@@ -1,0 +1,25 @@
+//! The rules on names, in terms, sorts and texts.
+#![tactic(auto)]
+
+mod broken;
+mod check_definitions;
+mod check_forms;
+mod check_sorts;
+mod check_texts;
+mod globals;
+mod numbers;
+mod reference;
+mod scope;
+mod tables;
+mod words;
+
+pub use broken::Broken;
+pub use check_definitions::check_dm;
+pub use check_forms::check_form;
+pub use check_sorts::check_sort;
+pub use check_texts::check_body;
+pub use globals::{Before, Globals, Head};
+pub use reference::{Ref, RefKind};
+pub use scope::Scope;
+pub use tables::{Called, Tables};
+pub use words::check_words;

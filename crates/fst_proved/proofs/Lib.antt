@@ -1,0 +1,4 @@
+pub mod ProofShown
+pub mod GoalProofs
+pub mod WorkedLaw
+pub mod OneBranch

@@ -1,0 +1,4 @@
+pub mod ProofShows
+pub mod ProvedGoals
+pub mod Extensions
+pub mod Branching

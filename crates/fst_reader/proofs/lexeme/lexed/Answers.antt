@@ -1,5 +1,0 @@
-use Rattle.fst_reader.proofs.Texts.{token_utf8}
-use Rattle.fst_reader.proofs.lexeme.lexed.Goals as goal
-
-pub returns-clause-utf8 : goal.returns-clause-utf8
-returns-clause-utf8 c = token_utf8 c.args.token.kind _ c.requires.longest.token

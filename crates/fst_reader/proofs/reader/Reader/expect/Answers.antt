@@ -1,6 +1,0 @@
-use Rattle.std.proofs.lemmas.List.Elements.{All-take, All-drop}
-use Rattle.fst_reader.specs.Tokens.{HasText}
-use Rattle.fst_reader.proofs.reader.Reader.expect.Goals as goal
-
-pub invariant_of-self : goal.invariant_of-self
-invariant_of-self c = All-take HasText _ _ (All-drop HasText 1 _ c.self.invariant)

@@ -1,4 +1,0 @@
-use Rattle.fst_reader.proofs.terms.+term.Given as goal
-
-abbrev pub decreases-term : goal.decreases-term
-decreases-term l = l.room

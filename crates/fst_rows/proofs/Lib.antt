@@ -1,0 +1,5 @@
+pub mod CombinedLemmas
+pub mod RiseLemmas
+pub mod ExtensionLemmas
+pub mod DivisorLemmas
+pub mod MergeLemmas

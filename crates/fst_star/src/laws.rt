@@ -1,0 +1,24 @@
+ghost use Rattle.fst_program.specs.Plain.{plain_program};
+ghost use Rattle.fst_star.specs.Laws.{GoalsMeetPaths, ValidGoalsMakeSafe, SafeMakesGoalsValid, TransformersEqualPaths};
+
+use fst_program::Program;
+
+/// The goals of a function are those that its inferred transformer gives.
+pub fn goals_law(program: &Program)
+    ensures { GoalsMeetPaths (plain_program program.now) }
+{}
+
+/// Where the goals that a transformer gives are valid, it is safe, and its results meet the ensures.
+pub fn safe_law(program: &Program)
+    ensures { ValidGoalsMakeSafe (plain_program program.now) }
+{}
+
+/// Where a transformer is safe and its results meet the ensures, the goals that it gives are valid.
+pub fn valid_law(program: &Program)
+    ensures { SafeMakesGoalsValid (plain_program program.now) }
+{}
+
+/// The inferred transformer demands exactly the results of the function's paths.
+pub fn paths_law(program: &Program)
+    ensures { TransformersEqualPaths (plain_program program.now) }
+{}

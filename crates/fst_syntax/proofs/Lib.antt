@@ -1,0 +1,14 @@
+pub mod Terminals
+pub mod Tables
+pub mod Samples
+pub mod Opens
+pub mod Chains
+pub mod Lists
+pub mod Enclosed
+pub mod Texts
+pub mod Following
+pub mod Behind
+pub mod OneReadingLemmas
+pub mod Runs
+pub mod Measures
+pub mod Rising

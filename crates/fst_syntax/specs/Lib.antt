@@ -1,0 +1,15 @@
+pub mod Tokens
+pub mod Spelling
+pub mod Lexemes
+pub mod Separators
+pub mod Trees
+pub mod Productions
+pub mod Tables
+pub mod Reading
+pub mod Arms
+pub mod Tails
+pub mod Following
+pub mod Nests
+pub mod Limits
+pub mod Program
+pub mod OneReading
