@@ -28,7 +28,7 @@ use Rattle.fst_terms.specs.Sentences.{KeepsSorts, AreFormulas}
 use Rattle.fst_cert.specs.declared.line.Line.{Line}
 use Rattle.fst_cert.specs.declared.line.Line.TheVariants as line
 use Rattle.fst_terms.proofs.TermSorts.{value-sorted, sort-sorted}
-use Rattle.fst_terms.proofs.ClearedLemmas.{make-value, first-value, second-value}
+use Rattle.fst_terms.proofs.PutLemmas.{make-value, first-value, second-value}
 use Rattle.fst_terms.proofs.LineTruths.{f, Numbered, Here, number-among, term-sorted, atom-numbered, nth-numbered, bool-numbered, unit-numbered, mark-value}
 
 -- ---- tests

@@ -27,7 +27,7 @@ use Rattle.fst_cert.specs.declared.line.Line.{Line}
 use Rattle.fst_cert.specs.declared.line.Line.TheVariants as line
 use Rattle.fst_terms.proofs.TermSorts.{value-sorted, sort-sorted}
 use Rattle.fst_terms.proofs.SortedFactLemmas.{IsFormula, first-of, second-of}
-use Rattle.fst_terms.proofs.ClearedLemmas.{first-value, second-value}
+use Rattle.fst_terms.proofs.PutLemmas.{first-value, second-value}
 use Rattle.fst_terms.proofs.LineTruths.{f, forms, atom-formula, reads-true}
 use Rattle.fst_cert.proofs.EquationTruths.{only-inv, holds-inv, map-inv, both-true, AllEqn, eqn-add, equation-true}
 use Rattle.fst_cert.proofs.RowTruths.{AllRow, row-add, row-line-true, no-verdict}

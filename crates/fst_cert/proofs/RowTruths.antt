@@ -30,7 +30,7 @@ use Rattle.fst_cert.specs.Proving.{only_if, on, holds, Eqn, is_eqn, narrow_row, 
 use Rattle.fst_terms.specs.Sentences.{KeepsSorts, AreFormulas}
 use Rattle.fst_cert.specs.declared.line.Line.{Line}
 use Rattle.fst_cert.specs.declared.line.Line.TheVariants as line
-use Rattle.fst_terms.proofs.ClearedLemmas.{first-value, second-value}
+use Rattle.fst_terms.proofs.PutLemmas.{first-value, second-value}
 use Rattle.fst_terms.proofs.SumLemmas.{summed-solved}
 use Rattle.fst_terms.proofs.TightLemmas.{tight-solved}
 use Rattle.fst_terms.proofs.WitnessLemmas.{below-unsolved}

@@ -11,11 +11,11 @@ use Rattle.fst_terms.specs.Formulas.{component, or_else, make, put, puts}
 use Rattle.fst_terms.proofs.TermLemmas.{choice, value_shift, widens_one}
 
 -- the first and the second argument's value
-first-value : (M : Meaning) (ts : Tms) (e : Env) → value M (get_or (listed ts) 0 t_unit) e ≡ first (values M ts e)
+pub first-value : (M : Meaning) (ts : Tms) (e : Env) → value M (get_or (listed ts) 0 t_unit) e ≡ first (values M ts e)
 first-value M t_end e = refl
 first-value M (t_more t ts) e = refl
 
-second-value : (M : Meaning) (ts : Tms) (e : Env) → value M (get_or (listed ts) 1 t_unit) e ≡ second (values M ts e)
+pub second-value : (M : Meaning) (ts : Tms) (e : Env) → value M (get_or (listed ts) 1 t_unit) e ≡ second (values M ts e)
 second-value M t_end e = refl
 second-value M (t_more t t_end) e = refl
 second-value M (t_more t (t_more u ts)) e = refl
@@ -58,7 +58,7 @@ module _ (M : Meaning) (e : Env) (S : Srt) where
       no-component o = tt
   first-component o (t_more t ts) = component-value o t (values M ts e)
 
-  make-value : (o : Op) (ts : Tms) (at : ℕ) → value M (make o S ts at) e ≡ prim o S (values M ts e)
+  pub make-value : (o : Op) (ts : Tms) (at : ℕ) → value M (make o S ts at) e ≡ prim o S (values M ts e)
   make-value o ts at = go (component o (get_or (listed ts) 0 t_unit)) (first-component o ts)
     where
       go : (c : Option Tm) → Gives c (prim o S (values M ts e)) → value M (or_else c (t_prim o S ts at)) e ≡ prim o S (values M ts e)
@@ -69,7 +69,7 @@ module _ (M : Meaning) (e : Env) (S : Srt) where
 abbrev pub put_values : Meaning → List Tm → Env → Env
 put_values M us e = map (λ u. value M u e) us
 
-lookup-values : (M : Meaning) (us : List Tm) (e : Env) (i : ℕ) → value M (get_or us i t_unit) e ≡ lookup (put_values M us e) i
+pub lookup-values : (M : Meaning) (us : List Tm) (e : Env) (i : ℕ) → value M (get_or us i t_unit) e ≡ lookup (put_values M us e) i
 lookup-values M [] e i = refl
 lookup-values M (u ∷ us) e zero = refl
 lookup-values M (u ∷ us) e (suc i) = lookup-values M us e i

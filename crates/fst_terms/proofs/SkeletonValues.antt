@@ -19,7 +19,7 @@ use Rattle.fst_terms.specs.Sentences.{KeepsSorts}
 use Rattle.fst_terms.proofs.TermSorts.{value-sorted, sort-sorted}
 use Rattle.fst_terms.proofs.SortedFactLemmas.{first-of, second-of}
 use Rattle.fst_terms.proofs.AtomSortLemmas.{fst-sorted, snd-sorted, just-arg, left-arg, right-arg, cons-first, cons-rest}
-use Rattle.fst_terms.proofs.ClearedLemmas.{make-value, first-value, second-value}
+use Rattle.fst_terms.proofs.PutLemmas.{make-value, first-value, second-value}
 
 -- the truth of a skeleton, where `v` gives that of each atom
 abbrev pub truth : (Tm → Bool) → Skl → Bool
