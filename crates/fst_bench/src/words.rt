@@ -17,11 +17,11 @@ pub fn number<R: Env>(rt: &R, place: usize) -> u32 {
     number
 }
 
-/// Whether the word of this place begins with a letter.
-pub fn is_name<R: Env>(rt: &R, place: usize) -> bool {
+/// Whether this is the word of this place.
+pub fn is_word<R: Env>(rt: &R, place: usize, word: &[u8]) -> bool {
     let mut buffer = [0u8; 16];
     match rt.arg(place, &mut buffer) {
-        Ok(length) => length > 0 && buffer[0].is_ascii_alphabetic(),
+        Ok(length) => buffer.get(..length) == Some(word),
         Err(_) => false,
     }
 }

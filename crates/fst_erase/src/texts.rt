@@ -27,42 +27,28 @@ pub(crate) fn erase_text(
     match text {
         Comp::Ret(term) => Ok(Comp::Ret(erase_term(alloc, scope, term)?)),
         Comp::Let(name, bound, rest) => {
-            let front = pair(
-                name.copy(alloc),
-                erase_box(alloc, program, scope, bound.get()),
-            );
-            let ((name, bound), rest) = pair(
-                front,
-                erase_under(alloc, program, scope, rest.get()),
-            )?;
+            let bound = erase_box(alloc, program, scope, bound.get());
+            let rest = erase_under(alloc, program, scope, rest.get());
+            let ((name, bound), rest) = pair(pair(name.copy(alloc), bound), rest)?;
             Ok(Comp::Let(name, bound, rest))
         }
         Comp::Bind(effect, name, bound, rest) => {
-            let front = pair(
-                name.copy(alloc),
-                erase_box(alloc, program, scope, bound.get()),
-            );
-            let ((name, bound), rest) = pair(
-                front,
-                erase_under(alloc, program, scope, rest.get()),
-            )?;
+            let bound = erase_box(alloc, program, scope, bound.get());
+            let rest = erase_under(alloc, program, scope, rest.get());
+            let ((name, bound), rest) = pair(pair(name.copy(alloc), bound), rest)?;
             Ok(Comp::Bind(*effect, name, bound, rest))
         }
         Comp::GhostLet(_, _, rest) => erase_ghost_rest(alloc, program, scope, rest.get()),
         Comp::Assert(_, _, rest) => erase_text(alloc, program, scope, rest.get()),
         Comp::If(test, left, right) => {
-            let front = pair(
-                erase_term(alloc, scope, test),
-                erase_box(alloc, program, scope, left.get()),
-            );
-            let ((test, left), right) = pair(front, erase_box(alloc, program, scope, right.get()))?;
+            let left = erase_box(alloc, program, scope, left.get());
+            let right = erase_box(alloc, program, scope, right.get());
+            let ((test, left), right) = pair(pair(erase_term(alloc, scope, test), left), right)?;
             Ok(Comp::If(test, left, right))
         }
         Comp::Match(term, at, arms) => {
-            let (term, arms) = pair(
-                erase_term(alloc, scope, term),
-                erase_arms(alloc, program, scope, arms.as_slice()),
-            )?;
+            let term = erase_term(alloc, scope, term);
+            let (term, arms) = pair(term, erase_arms(alloc, program, scope, arms.as_slice()))?;
             Ok(Comp::Match(term, *at, arms))
         }
         Comp::Call(function, args, at) => {
@@ -70,11 +56,9 @@ pub(crate) fn erase_text(
             Ok(Comp::Call(*function, args, *at))
         }
         Comp::Reify(effect, sort, part, input) => {
-            let front = pair(
-                sort.copy(alloc),
-                erase_box(alloc, program, scope, part.get()),
-            );
-            let ((sort, part), input) = pair(front, erase_term(alloc, scope, input))?;
+            let part = erase_box(alloc, program, scope, part.get());
+            let input = erase_term(alloc, scope, input);
+            let ((sort, part), input) = pair(pair(sort.copy(alloc), part), input)?;
             Ok(Comp::Reify(*effect, sort, part, input))
         }
         Comp::Reflect(effect, sort, name, part) => {
@@ -83,12 +67,10 @@ pub(crate) fn erase_text(
             Ok(Comp::Reflect(*effect, sort, name, part))
         }
         Comp::Return(effect, part) => {
-            let part = erase_box(alloc, program, scope, part.get())?;
-            Ok(Comp::Return(*effect, part))
+            Ok(Comp::Return(*effect, erase_box(alloc, program, scope, part.get())?))
         }
         Comp::Lift(lift, part) => {
-            let part = erase_box(alloc, program, scope, part.get())?;
-            Ok(Comp::Lift(*lift, part))
+            Ok(Comp::Lift(*lift, erase_box(alloc, program, scope, part.get())?))
         }
     }
 }

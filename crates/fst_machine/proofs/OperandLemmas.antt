@@ -1,8 +1,7 @@
 -- The arguments of a primitive, one by one.
-use Rattle.std.proofs.Common.{◌≡◌, ℕ, Bool, true, false, if◌then◌else◌, List, [], ◌∷◌, ◌++◌, Result, Ok, Err, Option, Some, None, IsTrue, refl, sym, ap, ◌∙◌, subst}
+use Rattle.std.proofs.Common.{◌≡◌, true, List, [], ◌∷◌, ◌++◌, Result, Ok, Err, refl, sym, ap, ◌∙◌, subst}
 use Rattle.std.proofs.lemmas.List.{append-nil}
 use Rattle.fst_base.specs.Values.{Val}
-use Rattle.fst_base.specs.Primitives.{first, second}
 use Rattle.fst_terms.specs.Meaning.{Env}
 use Rattle.fst_terms.specs.Terms.{plain_term, plain_terms}
 use Rattle.fst_terms.specs.declared.term.Term.{Term}
@@ -16,7 +15,6 @@ use Rattle.fst_machine.specs.Memories.{Keeps, IsCell, OperandsAre}
 use Rattle.fst_cells.specs.Made.{FilledBy}
 use Rattle.fst_cells.proofs.OperandLemmas.{filled-are, filled-kept}
 use Rattle.fst_machine.specs.Stops.{Gives, OperandsGive}
-use Rattle.fst_machine.proofs.MemoryLemmas.{value-kept}
 use Rattle.fst_machine.proofs.ArgumentLemmas.{gots_after, after-none, after-more}
 
 -- ---- one by one

@@ -1,11 +1,10 @@
 -- Sound code is what a run of the machine relies on.
-use Rattle.std.proofs.Common.{◌≡◌, ℕ, zero, suc, ◌+◌, Bool, true, false, not, ◌&&◌, List, [], ◌∷◌, length, slice_get, Option, Some, None, IsTrue, refl, sym, ◌∙◌}
-use Rattle.std.specs.Prelude.{⊤}
+use Rattle.std.proofs.Common.{◌≡◌, ℕ, zero, suc, ◌+◌, Bool, true, false, not, ◌&&◌, List, [], ◌∷◌, length, slice_get, Option, Some, None, IsTrue, refl, sym}
 use Rattle.std.specs.List.{list_all}
-use Rattle.fst_program.specs.Texts.{Cm, CmArms, c_ret, c_let, c_bind, c_ghost, c_assert, c_if, c_match, c_call, c_reify, c_reflect, c_return, c_lift, c_end, c_arm, Prm, Fn, Prog, if_there, fun_at, is_ghost}
+use Rattle.fst_program.specs.Texts.{Cm, CmArms, c_ret, c_let, c_bind, c_ghost, c_assert, c_if, c_match, c_call, c_reify, c_reflect, c_return, c_lift, c_end, c_arm, Prm, Fn, Prog, if_there, is_ghost}
 use Rattle.fst_program.proofs.SortedTerms.{and-left, and-right}
 use Rattle.fst_code.specs.Within.{term_within, terms_within}
-use Rattle.fst_code.specs.Sound.{is_effect, is_lift, is_there, effect_within, formula_within, text_sound, arms_sound, param_sound, params_sound, fun_sound, effect_sound, lift_sound, is_sound}
+use Rattle.fst_code.specs.Sound.{is_effect, is_lift, is_there, formula_within, text_sound, arms_sound, param_sound, params_sound, fun_sound, effect_sound, lift_sound, is_sound}
 use Rattle.fst_machine.specs.Turns.{IsCode, AreCode, NoneHidden, CodeProg}
 
 not-false : (b : Bool) → IsTrue (not b) → b ≡ false

@@ -1,12 +1,13 @@
 -- Steps of the machine's state.
-use Rattle.std.proofs.Common.{◌≡◌, ℕ, zero, suc, ◌<◌, nat_lt, length, slice_get, arith, IsTrue, option_map, Bool, if◌then◌else◌, List, [], ◌∷◌, ◌++◌, reverse, Result, Ok, Err, Option, Some, None, refl, sym, ap, ◌∙◌, subst}
+use Rattle.std.proofs.Common.{◌≡◌, ℕ, zero, suc, ◌<◌, nat_lt, length, slice_get, arith, IsTrue, option_map, Bool, true, false, if◌then◌else◌, List, [], ◌∷◌, ◌++◌, reverse, Result, Ok, Err, Option, Some, None, sym, ap, ◌∙◌, subst}
 use Rattle.std.proofs.lemmas.Bool.{ltb-true}
 use Rattle.std.proofs.lemmas.List.{reverse-append}
 use Rattle.fst_base.specs.Values.{Val}
 use Rattle.fst_base.specs.Primitives.{is_true}
 use Rattle.fst_terms.specs.Meaning.{Env}
 use Rattle.fst_terms.specs.Terms.{t_unit}
-use Rattle.fst_program.specs.Texts.{Dm, d_ret, Cm, c_bind, c_return, c_lift, EffDef, LftDef, Prog, if_there, effect_at, bind_text, return_text, lift_text}
+use Rattle.fst_code.specs.Sound.{is_effect, is_there}
+use Rattle.fst_program.specs.Texts.{Dm, d_ret, Cm, c_return, c_lift, EffDef, LftDef, Fn, Prog, if_there, effect_at, fun_at, bind_text, return_text, lift_text}
 use Rattle.fst_program.specs.Evaluation.{Got, got, got_wide, got_stuck}
 use Rattle.fst_cells.specs.declared.cell.Cell.{Cell}
 use Rattle.fst_machine.specs.declared.memory.Chain.{Chain}
@@ -157,11 +158,18 @@ get-there {X} xs i f h q = go xs i (ltb-true i (length xs) h) q
     go (x ∷ xs) zero lt q = cc
     go (x ∷ xs) (suc i) lt q = go xs i (omega (arith, lt)) q
 
-pub bind-there : (P : Prog) (E : ℕ) (x : List ℕ) (c1 c2 : Cm) → IsCode P (c_bind E x c1 c2) → None ≡ option_map (λ x. x.bind) (effect_at P E) → ⊥
-bind-there P E x c1 c2 h q = get-there P.effects E (λ x. x.bind) h.2 q
+pub bind-there : (P : Prog) (E : ℕ) → IsTrue (is_effect P E) → None ≡ option_map (λ x. x.bind) (effect_at P E) → ⊥
+bind-there P E h q = get-there P.effects E (λ x. x.bind) h q
 
 pub return-there : (P : Prog) (E : ℕ) (c : Cm) → IsCode P (c_return E c) → None ≡ option_map (λ x. x.ret) (effect_at P E) → ⊥
 return-there P E c h q = get-there P.effects E (λ x. x.ret) h.1 q
+
+pub call-there : (P : Prog) (j : ℕ) → IsTrue (is_there P j) → None ≡ fun_at P j → ⊥
+call-there P j = go (fun_at P j)
+  where
+    go : (o : Option Fn) → IsTrue (if_there o (λ f. true) false) → None ≡ o → ⊥
+    go None h q = cc
+    go (Some f) h q = cc
 
 pub lift-there : (P : Prog) (n : ℕ) (c : Cm) → IsCode P (c_lift n c) → None ≡ option_map (λ x. x.text) (lift_at P n) → ⊥
 lift-there P n c h q = get-there P.lifts n (λ x. x.text) h.1 q

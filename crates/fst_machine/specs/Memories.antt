@@ -1,6 +1,6 @@
 -- Values and environments in a machine's memory.
-use Rattle.std.specs.Prelude.{◌≡◌, ℕ, zero, suc, ◌<◌, ◌≤◌, Bool, true, false, List, [], ◌∷◌, ◌++◌, Option, Some, None, slice_get, ⊤}
-use Rattle.fst_base.specs.Values.{Val, v_unit}
+use Rattle.std.specs.Prelude.{◌≡◌, ℕ, zero, suc, ◌≤◌, Bool, true, false, List, [], ◌∷◌, ◌++◌, Option, Some, None, slice_get, ⊤}
+use Rattle.fst_base.specs.Values.{Val}
 use Rattle.fst_terms.specs.Meaning.{Env}
 use Rattle.fst_program.specs.declared.comp.Con.{Con}
 use Rattle.fst_program.specs.declared.comp.Con.TheVariants as con

@@ -1,11 +1,12 @@
 ghost use Rattle.std.specs.Prelude.{◌≡◌, [], List, reverse, IfOk, IsTrue};
 ghost use Rattle.fst_base.specs.Values.{Val, plain_value};
 ghost use Rattle.fst_terms.specs.Meaning.{Env};
-ghost use Rattle.fst_program.specs.Texts.{Prog};
+ghost use Rattle.fst_terms.specs.Terms.{plain_term, plain_terms};
+ghost use Rattle.fst_program.specs.Texts.{Prog, c_bind, c_if, c_call};
 ghost use Rattle.fst_program.specs.Plain.{plain_comp, plain_dm};
 ghost use Rattle.fst_machine.specs.Arms.{plain_arms, plain_dm_arms};
 ghost use Rattle.fst_code.specs.Plain.{plain_code};
-ghost use Rattle.fst_code.specs.Sound.{is_sound};
+ghost use Rattle.fst_code.specs.Sound.{is_effect, is_sound, is_there};
 ghost use Rattle.fst_machine.specs.Memories.{IsCell, InputIs, IsChain};
 
 use crate::eval::{arguments, eval, is_true};
@@ -16,6 +17,7 @@ use fst_base::{OutOfMemory, Pos, Seq, Value};
 use fst_cells::Cell;
 use fst_code::Code;
 use fst_program::{Arm, Comp, DmTerm};
+use fst_terms::Term;
 use std::alloc::Global;
 
 /// The computations that a definition's text may run, with their environment.
@@ -218,6 +220,73 @@ impl<'a> State<'a> {
         }
     }
 
+    /// One unit of a bind: what runs is its effect's text, over the two parts.
+    fn bind(
+        &mut self,
+        code: &'a Code,
+        effect: u32,
+        first: &'a Comp,
+        second: &'a Comp,
+        env: Chain,
+        input: Option<Cell>,
+    ) -> Result<Option<Cell>, Stop>
+        requires there { IsTrue (is_effect (plain_code code.now) effect) }
+        ensures { (e : Env) (s : Val) (fs : List Frm) → IsChain self.old.memory env e → InputIs self.old.memory input s → FramesAre self.old.memory (reverse self.old.frames) fs
+            → TurnIs self.new result (text_turn (plain_code code.now) (c_bind effect [] (plain_comp first.now) (plain_comp second.now)) e s fs) }
+    {
+        let Some(bind) = bind_text(code, effect) else {
+            unreachable!();
+        };
+        let given = self.memory.given(input)?;
+        let inner = self.memory.link(given, Chain::empty())?;
+        self.task = Task::Definition(bind, inner, Header::Bind(first, second, env));
+        Ok(None)
+    }
+
+    /// One unit of a choice.
+    fn side(
+        &mut self,
+        test: &Term,
+        left: &'a Comp,
+        right: &'a Comp,
+        env: Chain,
+        input: Option<Cell>,
+    ) -> Result<Option<Cell>, Stop>
+        ensures { (P : Prog) (e : Env) (s : Val) (fs : List Frm) → IsChain self.old.memory env e → InputIs self.old.memory input s → FramesAre self.old.memory (reverse self.old.frames) fs
+            → TurnIs self.new result (text_turn P (c_if (plain_term test.now) (plain_comp left.now) (plain_comp right.now)) e s fs) }
+    {
+        let test = eval(&mut self.memory, test, env)?;
+        let side = if is_true(&self.memory, test) {
+            left
+        } else {
+            right
+        };
+        self.task = Task::Text(side, env, input);
+        Ok(None)
+    }
+
+    /// One unit of a call.
+    fn call(
+        &mut self,
+        code: &'a Code,
+        number: u32,
+        args: &[Term],
+        env: Chain,
+        input: Option<Cell>,
+    ) -> Result<Option<Cell>, Stop>
+        requires sound { IsTrue (is_sound (plain_code code.now)) }
+        requires there { IsTrue (is_there (plain_code code.now) number) }
+        ensures { (e : Env) (s : Val) (fs : List Frm) → IsChain self.old.memory env e → InputIs self.old.memory input s → FramesAre self.old.memory (reverse self.old.frames) fs
+            → TurnIs self.new result (text_turn (plain_code code.now) (c_call number (plain_terms args.now) 0) e s fs) }
+    {
+        let Some(fun) = function(code, number) else {
+            unreachable!();
+        };
+        let inner = arguments(&mut self.memory, args, env)?;
+        self.task = Task::Text(body_of(fun), inner, input_for(fun.effect, input));
+        Ok(None)
+    }
+
     /// One unit of core text.
     #[cycle(text)]
     fn text(
@@ -243,28 +312,9 @@ impl<'a> State<'a> {
                 Ok(None)
             }
             Comp::Bind(effect, _, first, second) => {
-                let Some(bind) = bind_text(code, *effect) else {
-                    unreachable!();
-                };
-                let given = self.memory.given(input)?;
-                let inner = self.memory.link(given, Chain::empty())?;
-                self.task = Task::Definition(
-                    bind,
-                    inner,
-                    Header::Bind(first.get(), second.get(), env),
-                );
-                Ok(None)
+                self.bind(code, *effect, first.get(), second.get(), env, input)
             }
-            Comp::If(test, left, right) => {
-                let test = eval(&mut self.memory, test, env)?;
-                let side = if is_true(&self.memory, test) {
-                    left.get()
-                } else {
-                    right.get()
-                };
-                self.task = Task::Text(side, env, input);
-                Ok(None)
-            }
+            Comp::If(test, left, right) => self.side(test, left.get(), right.get(), env, input),
             Comp::Reify(_, _, part, term) => {
                 let input = eval(&mut self.memory, term, env)?;
                 self.task = Task::Text(part.get(), env, Some(input));
@@ -295,14 +345,7 @@ impl<'a> State<'a> {
                 let cell = eval(&mut self.memory, term, env)?;
                 self.arm(arms.as_slice(), *at, cell, env, input)
             }
-            Comp::Call(number, args, _) => {
-                let Some(fun) = function(code, *number) else {
-                    unreachable!();
-                };
-                let inner = arguments(&mut self.memory, args.as_slice(), env)?;
-                self.task = Task::Text(body_of(fun), inner, input_for(fun.effect, input));
-                Ok(None)
-            }
+            Comp::Call(number, args, _) => self.call(code, *number, args.as_slice(), env, input),
             Comp::GhostLet(_, _, _) => Err(Stop::Stuck(Pos { at: 0 })),
             Comp::Assert(_, at, _) => Err(Stop::Stuck(*at)),
         }

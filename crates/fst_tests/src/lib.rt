@@ -4,8 +4,6 @@
 #[cfg(test)]
 mod answers;
 #[cfg(test)]
-mod builders;
-#[cfg(test)]
 mod code;
 #[cfg(test)]
 mod congruence;

@@ -1,51 +1,19 @@
-use crate::builders::{
-    arm, binary, bind, call, call_one, call_two, choose, dm_let_pair, dm_match_two, dm_ret, fun,
-    ghost_let, let_in, lifted, match_two, number, reflect, reify, ret, returned, run_f, run_g,
-    source_fun, unary, unit, var,
-};
 use fst_base::{Name, Op, OutOfMemory, Pos, Seq, Sort, Value, one, pair, two};
 use fst_code::{Code, CodeFun};
 use fst_erase::erase;
 use fst_machine::{Answer, Machine, is_ready};
 use fst_program::{Comp, Con, DmTerm, Effect, EffectDef, LiftDef, Program as Source};
+use fst_samples::{
+    arm, binary, bind, call, call_one, call_two, choose, dm_let_pair, dm_match_two, dm_ret, fun,
+    ghost_let, let_in, lifted, match_two, number, reflect, reify, ret, returned, run_f, run_g,
+    source_fun, unary, unit, var,
+};
 use fst_terms::Term;
 use fst_values::print_value;
 use std::alloc::Global;
 use std::test::Fail;
 
 // Effects.
-
-fn effect(
-    alloc: Global,
-    ret: Result<DmTerm, OutOfMemory>,
-    bind: Result<DmTerm, OutOfMemory>,
-) -> Result<EffectDef, OutOfMemory> {
-    let (name, (ret, bind)) = pair(Name::new(alloc, "E"), pair(ret, bind))?;
-    Ok(EffectDef {
-        name,
-        base: Effect::Pure,
-        input: Sort::Int,
-        result: Sort::VarA,
-        ret_names: Seq::new(alloc),
-        ret,
-        bind_names: Seq::new(alloc),
-        bind,
-    })
-}
-
-fn tuple(
-    alloc: Global,
-    a: Result<Term, OutOfMemory>,
-    b: Result<Term, OutOfMemory>,
-) -> Result<Term, OutOfMemory> {
-    binary(alloc, Op::Pair, a, b)
-}
-
-/// State: the value with the input; a bind hands the new input on.
-fn state(alloc: Global) -> Result<EffectDef, OutOfMemory> {
-    let bind = dm_let_pair(alloc, run_f(var(0)), run_g(var(1), var(0)));
-    effect(alloc, dm_ret(tuple(alloc, var(1), var(0))), bind)
-}
 
 /// State whose bind runs its second computation twice.
 fn twice(alloc: Global) -> Result<EffectDef, OutOfMemory> {
@@ -81,28 +49,6 @@ fn lift(alloc: Global) -> Result<LiftDef, OutOfMemory> {
 }
 
 // Functions, by their number.
-
-type Function = Result<Option<CodeFun>, OutOfMemory>;
-
-/// Puts another state in the place of the old one, and gives the value.
-fn step(
-    alloc: Global,
-    at: u32,
-    params: usize,
-    value: Result<Term, OutOfMemory>,
-    next: Result<Term, OutOfMemory>,
-) -> Function {
-    let body = reflect(alloc, 0, tuple(alloc, value, next));
-    fun(alloc, at, params, Effect::User(0), body)
-}
-
-fn add(
-    alloc: Global,
-    a: Result<Term, OutOfMemory>,
-    b: Result<Term, OutOfMemory>,
-) -> Result<Term, OutOfMemory> {
-    binary(alloc, Op::Add, a, b)
-}
 
 fn tick(alloc: Global, at: u32) -> Function {
     step(alloc, at, 0, unit(), add(alloc, var(0), number(1)))
@@ -140,39 +86,6 @@ fn tick_twice(alloc: Global, effect: u32, tick: u32) -> Result<Comp, OutOfMemory
 }
 
 // Programs.
-
-type Functions = Result<Seq<Option<CodeFun>>, OutOfMemory>;
-
-fn with(funs: Functions, fun: Function) -> Functions {
-    let (mut funs, fun) = pair(funs, fun)?;
-    funs.push(fun)?;
-    Ok(funs)
-}
-
-fn code(
-    alloc: Global,
-    effects: Result<Seq<EffectDef>, OutOfMemory>,
-    funs: Functions,
-) -> Result<Code, OutOfMemory> {
-    let (effects, funs) = pair(effects, funs)?;
-    Ok(Code {
-        effects,
-        lifts: Seq::new(alloc),
-        funs,
-    })
-}
-
-fn without_effects(alloc: Global, funs: Functions) -> Result<Code, OutOfMemory> {
-    code(alloc, Ok(Seq::new(alloc)), funs)
-}
-
-fn with_effect(
-    alloc: Global,
-    effect: Result<EffectDef, OutOfMemory>,
-    funs: Functions,
-) -> Result<Code, OutOfMemory> {
-    code(alloc, one(alloc, effect?), funs)
-}
 
 /// The sum of a list; main is function 1.
 fn sum_code(alloc: Global) -> Result<Code, OutOfMemory> {

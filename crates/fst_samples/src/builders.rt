@@ -1,4 +1,4 @@
-//! Code made by hand, for tests: names and places are of no account.
+//! Parts of code: names and places are of no account.
 
 use fst_base::{Box, Name, Op, OutOfMemory, Pos, Seq, Sort, boxed, one, pair, two};
 use fst_code::CodeFun;
