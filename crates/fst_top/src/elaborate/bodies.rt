@@ -4,9 +4,10 @@ ghost use Rattle.fst_top.specs.Elaborating.{Gives, plain_typed, plain_typed_text
 ghost use Rattle.fst_top.specs.Scopes.{vars_in};
 
 use crate::elaborate::scope::Scope;
-use crate::elaborate::stop::{Stop, both, boxes, refuse};
+use crate::elaborate::stop::Stop;
 use crate::elaborate::terms::elaborate_term;
 use crate::elaborate::typed::{Binding, BuiltSort, TypedTerm, TypedText};
+use fst_base::{both, boxes, refuse};
 use fst_program::Comp;
 use fst_reader::{BodyTree, PartNode, PartTree, Word};
 use std::alloc::Global;
@@ -39,7 +40,7 @@ fn branch(
 {
     let sort = left.sort;
     if test.sort != BuiltSort::Bool || sort != right.sort {
-        return refuse((test, (left, right)));
+        return refuse((test, (left, right)), Stop::NotBuilt);
     }
     let (test, (left, right)) = both(test, boxes(alloc, left.text, right.text))?;
     Ok(TypedText {

@@ -10,9 +10,9 @@ ghost use Rattle.fst_top.specs.Scopes.{vars_in};
 use crate::elaborate::bodies::elaborate_body;
 use crate::elaborate::heads::{elaborate_clause, elaborate_param, elaborate_sort, is_taken};
 use crate::elaborate::scope::Scope;
-use crate::elaborate::stop::{Stop, both, refuse};
+use crate::elaborate::stop::Stop;
 use crate::elaborate::typed::{Binding, BuiltSort};
-use fst_base::{Name, Seq};
+use fst_base::{Name, Seq, both, refuse};
 use fst_program::{Comp, Effect, Fun, Param};
 use fst_reader::{EffectName, FunTree, ParamTree, Word};
 use fst_terms::Term;
@@ -44,7 +44,7 @@ fn next_param<'a>(
 {
     let (param, binding) = elaborate_param(alloc, tree)?;
     if !is_blank(&param.name) && is_taken(params, &param.name) {
-        return refuse(param);
+        return refuse(param, Stop::NotBuilt);
     }
     Ok((param, binding))
 }
@@ -100,7 +100,7 @@ fn elaborate_parts<'a>(
     let needs = elaborate_clause(alloc, &tree.head.needs, scope)?;
     let (needs, body) = both(needs, elaborate_body(alloc, &tree.body, scope))?;
     if body.sort != sort {
-        return refuse((needs, body));
+        return refuse((needs, body), Stop::NotBuilt);
     }
     let ((needs, body), gives) = both(
         (needs, body),

@@ -8,10 +8,10 @@ ghost use Rattle.fst_top.specs.Functions.{first_plain_param};
 ghost use Rattle.fst_top.specs.Scopes.{vars_in};
 
 use crate::elaborate::scope::Scope;
-use crate::elaborate::stop::{Stop, refuse};
+use crate::elaborate::stop::Stop;
 use crate::elaborate::terms::elaborate_term;
 use crate::elaborate::typed::{Binding, BuiltSort};
-use fst_base::Name;
+use fst_base::{Name, refuse};
 use fst_program::Param;
 use fst_reader::{ParamTree, RawTerm, SortTree, Word};
 use fst_terms::Term;
@@ -83,7 +83,7 @@ pub fn elaborate_clause(
         Some(form) => {
             let formula = elaborate_term(alloc, form, scope)?;
             if formula.sort != BuiltSort::Bool {
-                return refuse(formula);
+                return refuse(formula, Stop::NotBuilt);
             }
             Ok(Some(formula.term))
         }

@@ -5,8 +5,8 @@ ghost use Rattle.fst_top.specs.Elaborating.{Gives};
 ghost use Rattle.fst_top.specs.Functions.{next_fun, plain_funs};
 
 use crate::elaborate::functions::elaborate_fun;
-use crate::elaborate::stop::{Stop, refuse};
-use fst_base::{Name, Seq};
+use crate::elaborate::stop::Stop;
+use fst_base::{Name, Seq, refuse};
 use fst_program::{Fun, Program};
 use fst_reader::{Decl, RawDecl};
 use std::alloc::Global;
@@ -42,7 +42,7 @@ fn next_fun(
     };
     let fun = elaborate_fun(alloc, tree, result_word, number)?;
     if is_declared(funs, &fun.name) {
-        return refuse(fun);
+        return refuse(fun, Stop::NotBuilt);
     }
     Ok(fun)
 }

@@ -1,7 +1,6 @@
-ghost use Rattle.std.specs.Prelude.{◌≡◌, Err, IfOk, IfErr, MatchResult};
+ghost use Rattle.std.specs.Prelude.{◌≡◌};
 
-use fst_base::{Box, OutOfMemory};
-use std::alloc::Global;
+use fst_base::OutOfMemory;
 
 /// Why a tree gives no program.
 #[derive(Clone, Copy, Debug, PartialEq, Eq)]
@@ -19,31 +18,4 @@ impl From<OutOfMemory> for Stop {
     fn from(_: OutOfMemory) -> Stop {
         Stop::NoMemory
     }
-}
-
-/// The first with what the second gives. A caller that owns a tree lets it go here where the second stops.
-pub fn both<A: Drop, B: Drop>(first: A, second: Result<B, Stop>) -> Result<(A, B), Stop>
-    ensures ok { IfOk result (λ pair. (pair.0 ≡ first) × (second ≡ Ok pair.1)) }
-    ensures err { IfErr result (λ stop. second ≡ Err stop) }
-{
-    match second {
-        Ok(second) => Ok((first, second)),
-        Err(stop) => Err(stop),
-    }
-}
-
-/// Lets what is owned go, and refuses.
-pub fn refuse<A: Drop, B>(_owned: A) -> Result<B, Stop>
-    ensures { result ≡ Err Stop.NotBuilt }
-{
-    Err(Stop::NotBuilt)
-}
-
-/// Two values on the heap.
-pub fn boxes<A: Drop, B: Drop>(alloc: Global, first: A, second: B) -> Result<(Box<A>, Box<B>), Stop>
-    ensures { MatchResult result (λ pair. (pair.0 ≡ first) × (pair.1 ≡ second)) (λ stop. stop ≡ Stop.NoMemory) }
-{
-    let first = Box::new(alloc, first)?;
-    let second = Box::new(alloc, second)?;
-    Ok((first, second))
 }

@@ -4,9 +4,9 @@ ghost use Rattle.fst_top.specs.Elaborating.{Gives, plain_typed};
 ghost use Rattle.fst_top.specs.Scopes.{vars_in};
 
 use crate::elaborate::scope::Scope;
-use crate::elaborate::stop::{Stop, both};
+use crate::elaborate::stop::Stop;
 use crate::elaborate::typed::{BuiltSort, TypedTerm};
-use fst_base::{Box, Op, Pos, Seq, Sort};
+use fst_base::{Box, Op, Pos, Seq, Sort, both};
 use fst_reader::{FormNode, RawTerm};
 use fst_terms::Term;
 use std::alloc::Global;
