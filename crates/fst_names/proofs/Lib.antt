@@ -9,3 +9,7 @@ pub mod CheckLemmas
 pub mod CheckSortLemmas
 pub mod CheckTextLemmas
 pub mod CheckDmLemmas
+pub mod SeveralLemmas
+pub mod CheckFunLemmas
+pub mod CheckEffectLemmas
+pub mod CheckProgramLemmas

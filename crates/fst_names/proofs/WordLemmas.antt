@@ -15,7 +15,7 @@ use Rattle.fst_names.specs.Names.{Names, binding, is_among, is_blank, has_con, r
 use Rattle.fst_names.proofs.BrokenLemmas.{first-append}
 use Rattle.fst_names.proofs.ScopeLemmas.{number-here, number-later, number-end}
 
-binding-more : (ws : List Word) (w : Word) (xs : Names) → binding (ws ++ w ∷ []) xs ≡ w.text ∷ binding ws xs
+pub binding-more : (ws : List Word) (w : Word) (xs : Names) → binding (ws ++ w ∷ []) xs ≡ w.text ∷ binding ws xs
 binding-more [] w xs = refl
 binding-more (v ∷ ws) w xs = binding-more ws w (v.text ∷ xs)
 
@@ -122,7 +122,7 @@ run-end ws k x h so_far = so_far ∙ number-end k (runs_of ws) x (let l = runs-l
 abbrev own : (met : Names) → Word → List Broken
 own met w = unless (is_blank w.text || not (is_among w.text met)) (breaks rule.Twice w.at.at)
 
-words-more : (met : Names) (ws : List Word) (w : Word) → broken_words met (ws ++ w ∷ []) ≡ broken_words met ws ++ own (binding ws met) w
+pub words-more : (met : Names) (ws : List Word) (w : Word) → broken_words met (ws ++ w ∷ []) ≡ broken_words met ws ++ own (binding ws met) w
 words-more met [] w = append-nil (own met w)
 words-more met (v ∷ ws) w = ap (λ bs. own met v ++ bs) (words-more (v.text ∷ met) ws w) ∙ sym (append_assoc (own met v) (broken_words (v.text ∷ met) ws) (own (binding ws (v.text ∷ met)) w))
 

@@ -5,3 +5,4 @@ pub mod Scopes
 pub mod Heads
 pub mod Looked
 pub mod Checks
+pub mod Declarations

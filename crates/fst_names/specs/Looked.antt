@@ -1,7 +1,7 @@
 -- What the tables of the code hold.
 use Rattle.std.specs.Prelude.{List, Option, Some, None, option_map}
 use Rattle.fst_trees.specs.declared.word.Word.{Word}
-use Rattle.fst_names.specs.declared.globals.Before as B
+use Rattle.fst_names.specs.declared.before.Before as B
 use Rattle.fst_names.specs.declared.tables.Tables as T
 use Rattle.fst_names.specs.declared.tables.Called.{Called}
 use Rattle.fst_names.specs.Names.{Globals, Before, Tables, Use, fun_tables, definition_tables, runs_of}

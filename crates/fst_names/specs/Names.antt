@@ -337,6 +337,27 @@ abbrev pub each : {A : Type 0} → (A → List Broken) → List A → List Broke
 each k [] = []
 each k (a ∷ more) = k a ++ each k more
 
+-- the number is one of the first so many
+abbrev pub is_before : (count : ℕ) → Option ℕ → Bool
+is_before count None = false
+is_before count (Some n) = nat_lt n count
+
+-- each refinement sees the parameters up to its own
+abbrev pub named_params : Tables → Names → List (WParam Word) → List (WParam Ref)
+named_params T xs [] = []
+named_params T xs (p ∷ ps) =
+    record { name = p.name; sort = named_sort T p.sort; hidden = p.hidden; refine = option_map (named_form T (p.name.text ∷ xs)) p.refine }
+    ∷ named_params T (p.name.text ∷ xs) ps
+
+abbrev pub broken_params : Tables → Names → List (WParam Word) → List Broken
+broken_params T xs [] = []
+broken_params T xs (p ∷ ps) = broken_sort T p.sort ++ optional (broken_form T (p.name.text ∷ xs)) p.refine ++ broken_params T (p.name.text ∷ xs) ps
+
+-- the names in scope in a clause: with a user effect the word input stands for its input
+abbrev pub clause_names : EffectName Word → Names → Names
+clause_names (effect.User w) xs = codes "input" ∷ xs
+clause_names _ xs = xs
+
 module _ (G : Globals) (b : Before) where
   -- the text of a definition, over its computations and its variables
   abbrev pub named_dm : (runs xs : Names) → WText Word → WText Ref
@@ -358,10 +379,6 @@ module _ (G : Globals) (b : Before) where
   }
 
   -- an effect's name: it is declared before, or there are too many effects
-  abbrev pub is_before : (count : ℕ) → Option ℕ → Bool
-  is_before count None = false
-  is_before count (Some n) = nat_lt n count
-
   abbrev pub broken_effect_word : Word → List Broken
   broken_effect_word w = unless (not (is_before b.effects (number_of w.text G.effects))) (breaks rule.Twice w.at.at) ++ unless (nat_lt b.effects 32) (breaks rule.TooMany w.at.at)
 
@@ -380,17 +397,6 @@ module _ (G : Globals) (b : Before) where
       listed (named_effect G b l.from).broken ++ listed (named_effect G b l.«to»).broken ++ broken_words [] l.names
       ++ broken_dm (runs_of l.names) (input_of l.names) l.text
 
-  -- each refinement sees the parameters up to its own
-  abbrev pub named_params : Tables → Names → List (WParam Word) → List (WParam Ref)
-  named_params T xs [] = []
-  named_params T xs (p ∷ ps) =
-      record { name = p.name; sort = named_sort T p.sort; hidden = p.hidden; refine = option_map (named_form T (p.name.text ∷ xs)) p.refine }
-      ∷ named_params T (p.name.text ∷ xs) ps
-
-  abbrev pub broken_params : Tables → Names → List (WParam Word) → List Broken
-  broken_params T xs [] = []
-  broken_params T xs (p ∷ ps) = broken_sort T p.sort ++ optional (broken_form T (p.name.text ∷ xs)) p.refine ++ broken_params T (p.name.text ∷ xs) ps
-
   abbrev pub named_effect_name : EffectName Word → EffectName Ref
   named_effect_name effect.Pure = effect.Pure
   named_effect_name effect.Ghost = effect.Ghost
@@ -400,11 +406,6 @@ module _ (G : Globals) (b : Before) where
   abbrev pub broken_effect_name : EffectName Word → List Broken
   broken_effect_name (effect.User w) = listed (named_effect G b w).broken
   broken_effect_name _ = []
-
-  -- the names in scope in a clause: with a user effect the word input stands for its input
-  abbrev pub clause_names : EffectName Word → Names → Names
-  clause_names (effect.User w) xs = codes "input" ∷ xs
-  clause_names _ xs = xs
 
   abbrev pub named_fun_decl : WFun Word → WFun Ref
   named_fun_decl f =

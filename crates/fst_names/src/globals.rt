@@ -81,12 +81,3 @@ impl<'a> Globals<'a> {
         self.effects.find(name)
     }
 }
-
-/// How much of a program stands before a declaration: the group of the function, if it is one, and how many functions and
-/// effects.
-#[derive(Clone, Copy)]
-pub struct Before {
-    pub group: u32,
-    pub funs: u32,
-    pub effects: u32,
-}

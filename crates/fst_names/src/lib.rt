@@ -1,9 +1,13 @@
-//! The rules on names, in terms, sorts and texts.
+//! The rules on names.
 #![tactic(auto)]
 
+mod before;
 mod broken;
 mod check_definitions;
+mod check_effects;
 mod check_forms;
+mod check_functions;
+mod check_programs;
 mod check_sorts;
 mod check_texts;
 mod globals;
@@ -13,12 +17,14 @@ mod scope;
 mod tables;
 mod words;
 
+pub use before::Before;
 pub use broken::Broken;
 pub use check_definitions::check_dm;
 pub use check_forms::check_form;
+pub use check_programs::check_program;
 pub use check_sorts::check_sort;
 pub use check_texts::check_body;
-pub use globals::{Before, Globals, Head};
+pub use globals::{Globals, Head};
 pub use reference::{Ref, RefKind};
 pub use scope::Scope;
 pub use tables::{Called, Tables};

@@ -10,7 +10,7 @@ use std::alloc::Global;
 /// The names of the variables in scope.
 #[derive(Drop)]
 pub struct Scope<'a> {
-    names: Vec<&'a Name>,
+    names: Vec<&'a str>,
 }
 
 /// Whether the two are one name.
@@ -18,6 +18,13 @@ pub fn is_same(first: &Name, second: &Name) -> bool
     ensures { result ≡ bytes_eq first.now second.now }
 {
     first.text() == second.text()
+}
+
+/// Whether the name has this text.
+fn is_text(name: &Name, text: &str) -> bool
+    ensures { result ≡ bytes_eq name.now text.now }
+{
+    name.text() == text
 }
 
 impl<'a> Scope<'a> {
@@ -34,7 +41,14 @@ impl<'a> Scope<'a> {
     pub fn push(&mut self, name: &'a Name) -> Result<(), OutOfMemory>
         ensures ok { OnOk result (names_in self.new ≡ name.now ∷ names_in self.old) }
     {
-        self.names.push(name)?;
+        self.push_text(name.text())
+    }
+
+    /// Brings a name of this text into scope.
+    pub fn push_text(&mut self, text: &'a str) -> Result<(), OutOfMemory>
+        ensures ok { OnOk result (names_in self.new ≡ text.now ∷ names_in self.old) }
+    {
+        self.names.push(text)?;
         Ok(())
     }
 
@@ -72,7 +86,7 @@ impl<'a> Scope<'a> {
         let count = self.names.len();
         for index in 0..count {
             let bound = self.names[count - 1 - index];
-            if is_same(name, bound) {
+            if is_text(name, bound) {
                 return Some(index);
             }
         }

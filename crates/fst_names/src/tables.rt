@@ -3,8 +3,9 @@ ghost use Rattle.fst_names.specs.Broken.{first_broken};
 ghost use Rattle.fst_names.specs.Names.{broken_count, broken_global, called_fun, applied_fun, named_effect, run_use, number_of, runs_of};
 ghost use Rattle.fst_names.specs.Looked.{tables_in, before_in, seen};
 
+use crate::before::Before;
 use crate::broken::{Broken, unless};
-use crate::globals::{Before, Globals};
+use crate::globals::Globals;
 use crate::scope::is_same;
 use fst_base::Rule;
 use fst_trees::Word;

@@ -3,7 +3,7 @@ use Rattle.fst_names.proofs.ScopeLemmas.{step-here, step-there}
 use Rattle.fst_names.proofs.scope.Scope.find.Goals as goal
 
 pub loop-index-preserved : goal.loop-index-preserved
-loop-index-preserved c = step-there c.args.self.now.names.items _ c.loop-index.index _ c.args.name.now (omega (arith, c.len-count.ensures, c.args.self.now.names.ok.0)) c.loop-index-test.true c.index-bound.ensures (sym c.is_same.ensures ∙ c.if-is_same.false) c.loop-index.invariant
+loop-index-preserved c = step-there c.args.self.now.names.items _ c.loop-index.index _ c.args.name.now (omega (arith, c.len-count.ensures, c.args.self.now.names.ok.0)) c.loop-index-test.true c.index-bound.ensures (sym c.is_text.ensures ∙ c.if-is_text.false) c.loop-index.invariant
 
-pub returns-then-is_same : goal.returns-then-is_same
-returns-then-is_same c = sym (step-here c.args.self.now.names.items _ c.loop-index.index _ c.args.name.now (omega (arith, c.len-count.ensures, c.args.self.now.names.ok.0)) c.loop-index-test.true c.index-bound.ensures (sym c.is_same.ensures ∙ c.if-is_same.true) c.loop-index.invariant)
+pub returns-then-is_text : goal.returns-then-is_text
+returns-then-is_text c = sym (step-here c.args.self.now.names.items _ c.loop-index.index _ c.args.name.now (omega (arith, c.len-count.ensures, c.args.self.now.names.ok.0)) c.loop-index-test.true c.index-bound.ensures (sym c.is_text.ensures ∙ c.if-is_text.true) c.loop-index.invariant)

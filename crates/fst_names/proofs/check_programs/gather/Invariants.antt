@@ -1,0 +1,10 @@
+use Rattle.std.proofs.Common.{◌≡◌, take}
+use Rattle.fst_names.specs.Declarations.{all_of, count_of}
+use Rattle.fst_names.specs.Looked.{before_in}
+use Rattle.fst_names.proofs.check_programs.gather.Given as goal
+
+abbrev pub invariant-loop-decl : goal.invariant-loop-decl
+invariant-loop-decl l = record {
+  globals : l.globals ≡ all_of (take l.decl-index l.decls);
+  before : before_in l.before ≡ count_of (take l.decl-index l.decls);
+}
