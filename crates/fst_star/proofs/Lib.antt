@@ -1,3 +1,13 @@
+pub mod PlainLemmas
+pub mod WayLemmas
+pub mod PutParts
+pub mod TrailLemmas
+pub mod DecidingLemmas
+pub mod SameArgs
+pub mod OpenedLemmas
+pub mod EventLemmas
+pub mod StartingLemmas
+pub mod GoalLemmas
 pub mod PutLaws
 pub mod TextSorts
 pub mod RaisedWalk

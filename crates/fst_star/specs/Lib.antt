@@ -5,3 +5,6 @@ pub mod Inference
 pub mod Events
 pub mod Laws
 pub mod Size
+pub mod Plain
+pub mod Met
+pub mod Starting
