@@ -1,12 +1,13 @@
-use fst_base::{Name, Op, OutOfMemory, Pos, Seq, Sort, Value, one, pair, two};
-use fst_code::{Code, CodeFun};
+use fst_base::{Op, OutOfMemory, Pos, Seq, Sort, Value, one, pair, two};
+use fst_code::Code;
 use fst_erase::erase;
 use fst_machine::{Answer, Machine, is_ready};
-use fst_program::{Comp, Con, DmTerm, Effect, EffectDef, LiftDef, Program as Source};
+use fst_program::{Comp, Con, Effect, EffectDef, LiftDef, Program as Source};
 use fst_samples::{
-    arm, binary, bind, call, call_one, call_two, choose, dm_let_pair, dm_match_two, dm_ret, fun,
-    ghost_let, let_in, lifted, match_two, number, reflect, reify, ret, returned, run_f, run_g,
-    source_fun, unary, unit, var,
+    Function, add, arm, binary, bind, call, call_one, call_two, choose, code, dm_let_pair,
+    dm_match_two, dm_ret, effect, fun, ghost_let, let_in, lifted, match_two, number, reflect,
+    reify, ret, returned, run_f, run_g, source_fun, state, step, tuple, unary, unit, var, with,
+    with_effect, without_effects,
 };
 use fst_terms::Term;
 use fst_values::print_value;
