@@ -10,6 +10,8 @@ mod congruence;
 #[cfg(test)]
 mod flats;
 #[cfg(test)]
+mod function_facts;
+#[cfg(test)]
 mod lattices;
 #[cfg(test)]
 mod machine;
