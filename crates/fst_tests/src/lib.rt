@@ -16,6 +16,10 @@ mod lattices;
 #[cfg(test)]
 mod machine;
 #[cfg(test)]
+mod name_uses;
+#[cfg(test)]
+mod names;
+#[cfg(test)]
 mod outside;
 #[cfg(test)]
 mod primitives;
