@@ -5,3 +5,4 @@ pub mod BuildingLemmas
 pub mod ClauseLemmas
 pub mod ApplicationLemmas
 pub mod RoundLemmas
+pub mod EndLemmas

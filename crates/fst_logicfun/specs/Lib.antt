@@ -1,3 +1,4 @@
+pub mod Ends
 pub mod Makes
 pub mod Parts
 pub mod Rounds

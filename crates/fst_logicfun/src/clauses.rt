@@ -70,8 +70,8 @@ fn last_term(alloc: Global, args: &[Term]) -> Result<Box<Term>, OutOfMemory>
     if args.len() == 0 {
         return Box::new(alloc, Term::Unit);
     }
-    let last = args.len() - 1;
-    boxed(alloc, args[last].copy(alloc))
+    let end = args.len() - 1;
+    boxed(alloc, args[end].copy(alloc))
 }
 
 /// The scope of a clause: the arguments, then the input where there is one.

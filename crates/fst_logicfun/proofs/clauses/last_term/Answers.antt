@@ -7,5 +7,5 @@ use Rattle.fst_logicfun.proofs.clauses.last_term.Goals as goal
 pub returns : goal.returns
 returns c =
     IfOk-weaker c.boxed.result _ _
-    (λ made e. ap plain_term (IfOk-at_ok (λ t. t ≡ c.index-args-last.result) e c.copy.ensures ∙ c.index-args-last.is) ∙ last-term c.args.args.now _ _ (omega arith) (omega arith))
+    (λ made e. ap plain_term (IfOk-at_ok (λ t. t ≡ c.index-args-end.result) e c.copy.ensures ∙ c.index-args-end.is) ∙ last-term c.args.args.now _ _ (omega arith) (omega arith))
     c.boxed.ensures
