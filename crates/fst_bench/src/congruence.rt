@@ -70,10 +70,8 @@ fn size_of_closure(
     equations: &[Equation],
 ) -> Result<usize, OutOfMemory> {
     let count = nodes.len();
-    if u32::try_from(count).is_err()
-        || !is_table(nodes.as_slice())
-        || !are_equations(equations, count)
-    {
+    let is_small = u32::try_from(count).is_ok();
+    if !is_small || !is_table(nodes.as_slice()) || !are_equations(equations, count) {
         return Err(OutOfMemory);
     }
     let closure = close_table(alloc, nodes, equations)?;
