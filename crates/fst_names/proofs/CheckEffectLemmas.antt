@@ -1,14 +1,13 @@
 -- What answers among the rules that an effect or a lift breaks, a part of it at a time.
-use Rattle.std.proofs.Common.{◌≡◌, ℕ, zero, suc, ◌-◌, ◌<◌, List, [], ◌∷◌, ◌++◌, length, get_or, refl, sym, ap, ◌∙◌, arith}
+use Rattle.std.proofs.Common.{◌≡◌, ℕ, zero, suc, ◌-◌, ◌<◌, List, [], ◌∷◌, length, get_or, refl, sym, ap, ◌∙◌, arith}
 use Rattle.std.specs.Prelude.{not, nat_lt}
 use Rattle.fst_base.specs.declared.rule.Rule.TheVariants as rule
 use Rattle.fst_trees.specs.declared.word.Word.{Word}
 use Rattle.fst_trees.specs.declared.decl.EffectTree.{EffectTree}
 use Rattle.fst_trees.specs.declared.decl.LiftTree.{LiftTree}
-use Rattle.fst_names.specs.declared.broken.Broken.{Broken}
 use Rattle.fst_names.specs.Broken.{first_broken, least, breaks}
 use Rattle.fst_names.specs.Trees.{word_at, plain_wsort, plain_dm}
-use Rattle.fst_names.specs.Names.{Tables, Globals, Before, definition_tables, named_effect, binding, runs_of, input_of, listed, broken_sort, broken_words, broken_text, broken_effect_word, is_before, number_of, unless}
+use Rattle.fst_names.specs.Names.{Globals, Before, definition_tables, named_effect, binding, runs_of, input_of, listed, broken_sort, broken_words, broken_text, broken_effect_word, is_before, number_of, unless}
 use Rattle.fst_names.specs.Checks.{sort_breaks, dm_breaks}
 use Rattle.fst_names.specs.Declarations.{effect_word_breaks, return_breaks, bind_breaks, effect_breaks, lift_breaks}
 use Rattle.fst_names.proofs.CheckTextLemmas.{two, listed-first}

@@ -1,5 +1,5 @@
 -- What answers among the rules that a function breaks, a part of it at a time.
-use Rattle.std.proofs.Common.{◌≡◌, ℕ, suc, List, [], ◌∷◌, ◌++◌, map, length, take, get_or, ◌+◌, ◌<◌, Option, None, Some, refl, sym, ap, ◌∙◌, append_assoc, codes}
+use Rattle.std.proofs.Common.{◌≡◌, ℕ, List, [], ◌∷◌, ◌++◌, map, length, take, get_or, ◌+◌, ◌<◌, Option, None, Some, refl, sym, ap, ◌∙◌, append_assoc, codes}
 use Rattle.std.specs.Prelude.{not, ◌||◌, nat_lt, option_map}
 use Rattle.std.proofs.lemmas.List.{append-nil, take_more, map-append}
 use Rattle.fst_base.specs.declared.rule.Rule.TheVariants as rule
@@ -11,8 +11,8 @@ use Rattle.fst_trees.specs.declared.decl.EffectName.TheVariants as effect
 use Rattle.fst_trees.specs.declared.decl.FunTree.{FunTree}
 use Rattle.fst_names.specs.declared.broken.Broken.{Broken}
 use Rattle.fst_names.specs.Broken.{first_broken, least, breaks}
-use Rattle.fst_names.specs.Trees.{WForm, WParam, w_fun, plain_wsort, plain_form, plain_forms, plain_wparam, plain_wfun, plain_text}
-use Rattle.fst_names.specs.Names.{Tables, Names, Globals, Before, FunHead, group_of, own_group, fun_tables, binding, is_among, is_blank, unless, listed, optional, each, clause_names, broken_form, broken_forms, broken_sort, broken_text, broken_words, broken_params, broken_effect_name, broken_fun_word, named_effect, is_before, fun_from}
+use Rattle.fst_names.specs.Trees.{WParam, w_fun, plain_wsort, plain_form, plain_forms, plain_wparam, plain_wfun, plain_text}
+use Rattle.fst_names.specs.Names.{Tables, Names, Globals, Before, own_group, fun_tables, binding, is_among, is_blank, unless, optional, each, clause_names, broken_form, broken_forms, broken_sort, broken_text, broken_words, broken_params, broken_effect_name, broken_fun_word, named_effect, is_before, fun_from}
 use Rattle.fst_names.specs.Checks.{node_breaks, form_breaks, forms_break, sort_breaks, text_breaks}
 use Rattle.fst_names.specs.Declarations.{param_names, fun_word_breaks, maybe_breaks, params_break, effect_name_breaks, clauses_break, head_breaks, fun_breaks}
 use Rattle.fst_names.proofs.CheckTextLemmas.{two, listed-first}

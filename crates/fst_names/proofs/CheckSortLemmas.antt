@@ -11,28 +11,28 @@ use Rattle.fst_names.specs.Names.{Tables, broken_sort, variable_kind, is_some, u
 use Rattle.fst_names.specs.Checks.{sort_breaks, note_breaks}
 use Rattle.fst_names.proofs.BrokenLemmas.{first-append}
 
-plain-Pair : (s t : SortTree Word) → plain_wsort (V.Pair s t) ≡ w_pair (plain_wsort s) (plain_wsort t)
+pub plain-Pair : {R : Type 0} → (s t : SortTree R) → plain_wsort (V.Pair s t) ≡ w_pair (plain_wsort s) (plain_wsort t)
 plain-Pair s t = search (rules, D.the_lemmas)
 
-plain-Either : (s t : SortTree Word) → plain_wsort (V.Either s t) ≡ w_either (plain_wsort s) (plain_wsort t)
+pub plain-Either : {R : Type 0} → (s t : SortTree R) → plain_wsort (V.Either s t) ≡ w_either (plain_wsort s) (plain_wsort t)
 plain-Either s t = search (rules, D.the_lemmas)
 
-plain-Opt : (s : SortTree Word) → plain_wsort (V.Opt s) ≡ w_opt (plain_wsort s)
+pub plain-Opt : {R : Type 0} → (s : SortTree R) → plain_wsort (V.Opt s) ≡ w_opt (plain_wsort s)
 plain-Opt s = search (rules, D.the_lemmas)
 
-plain-List : (s : SortTree Word) → plain_wsort (V.List s) ≡ w_list (plain_wsort s)
+pub plain-List : {R : Type 0} → (s : SortTree R) → plain_wsort (V.List s) ≡ w_list (plain_wsort s)
 plain-List s = search (rules, D.the_lemmas)
 
-plain-Ident : (w : Word) → plain_wsort (V.Ident w) ≡ w_name w
+pub plain-Ident : {R : Type 0} → (w : R) → plain_wsort (V.Ident w) ≡ w_name w
 plain-Ident w = search (rules, D.the_lemmas)
 
-plain-Unit : plain_wsort {R = Word} V.Unit ≡ w_unit
+pub plain-Unit : {R : Type 0} → plain_wsort {R = R} V.Unit ≡ w_unit
 plain-Unit = search (rules, D.the_lemmas)
 
-plain-Bool : plain_wsort {R = Word} V.Bool ≡ w_bool
+pub plain-Bool : {R : Type 0} → plain_wsort {R = R} V.Bool ≡ w_bool
 plain-Bool = search (rules, D.the_lemmas)
 
-plain-Int : plain_wsort {R = Word} V.Int ≡ w_int
+pub plain-Int : {R : Type 0} → plain_wsort {R = R} V.Int ≡ w_int
 plain-Int = search (rules, D.the_lemmas)
 
 pub sort-Unit : (T : Tables) → sort_breaks T V.Unit ≡ None

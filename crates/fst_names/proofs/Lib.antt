@@ -13,3 +13,5 @@ pub mod SeveralLemmas
 pub mod CheckFunLemmas
 pub mod CheckEffectLemmas
 pub mod CheckProgramLemmas
+pub mod NameLemmas
+pub mod NameSortLemmas

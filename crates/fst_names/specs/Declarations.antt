@@ -16,7 +16,7 @@ use Rattle.fst_trees.specs.declared.decl.Decl.TheVariants as decl
 use Rattle.fst_names.specs.declared.broken.Broken.{Broken}
 use Rattle.fst_names.specs.Broken.{first_broken, least}
 use Rattle.fst_names.specs.Trees.{WDecl, w_fun, word_at, plain_form, plain_wparam, plain_wfun, plain_weffect, plain_wlift, plain_decl}
-use Rattle.fst_names.specs.Names.{Tables, Names, Globals, Before, FunHead, group_of, start, after, globals, listed, optional, binding, clause_names, runs_of, input_of, own_group, fun_tables, definition_tables, broken_form, broken_params, broken_words, broken_fun_word, broken_effect_word, broken_fun_decl, broken_effect_decl, broken_lift_decl, broken_decl, broken_from}
+use Rattle.fst_names.specs.Names.{Tables, Names, Globals, Before, group_of, start, after, globals, optional, binding, clause_names, runs_of, input_of, own_group, definition_tables, broken_form, broken_params, broken_words, broken_fun_word, broken_effect_word, broken_fun_decl, broken_effect_decl, broken_lift_decl, broken_decl, broken_from}
 use Rattle.fst_names.specs.Checks.{sort_breaks, forms_break, dm_breaks}
 
 -- ---- functions

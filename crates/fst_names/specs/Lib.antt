@@ -6,3 +6,4 @@ pub mod Heads
 pub mod Looked
 pub mod Checks
 pub mod Declarations
+pub mod Namings

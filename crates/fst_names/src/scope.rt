@@ -80,7 +80,7 @@ impl<'a> Scope<'a> {
     }
 
     /// The number of the name, from the last one on.
-    fn find(&self, name: &Name) -> Option<usize>
+    pub(crate) fn find(&self, name: &Name) -> Option<usize>
         ensures { result ≡ number_of name.now (names_in self.now) }
     {
         let count = self.names.len();

@@ -1,0 +1,62 @@
+//! What uses of names stand for.
+
+ghost use Rattle.std.specs.Prelude.{◌≡◌, IfOk};
+ghost use Rattle.fst_names.specs.Names.{local, refer, kind_or_a, variable_kind};
+ghost use Rattle.fst_names.specs.Looked.{tables_in};
+ghost use Rattle.fst_names.specs.Scopes.{names_in};
+
+use crate::reference::{Ref, RefKind};
+use crate::scope::Scope;
+use crate::tables::Tables;
+use fst_base::OutOfMemory;
+use fst_trees::Word;
+
+impl<'a> Scope<'a> {
+    /// What a variable stands for: the last of its name in scope.
+    pub fn local(&self, word: &Word) -> Result<Ref, OutOfMemory>
+        ensures { IfOk result (λ r. r ≡ local (names_in self.now) word.now) }
+    {
+        let index = self.find(&word.text).unwrap_or(0);
+        let Ok(index) = u32::try_from(index) else {
+            return Err(OutOfMemory);
+        };
+        Ok(Ref {
+            kind: RefKind::Local,
+            index,
+            at: word.at,
+        })
+    }
+}
+
+impl<'t, 'a> Tables<'t, 'a> {
+    /// What an applied function stands for: the first of its name.
+    pub fn applied_ref(&self, word: &Word) -> Ref
+        ensures { result ≡ ((tables_in self.now).applied word.now).reference }
+    {
+        let index = match self.globals.fun(&word.text) {
+            Some((number, _)) => number,
+            None => 0,
+        };
+        Ref {
+            kind: RefKind::Fun,
+            index,
+            at: word.at,
+        }
+    }
+    /// What a name of a sort stands for. A name that is none counts as the first sort variable.
+    pub fn sort_ref(&self, word: &Word) -> Ref
+        ensures { result ≡ refer (kind_or_a (tables_in self.now) (variable_kind (tables_in self.now) word.now.text)) 0 word.now }
+    {
+        let is_b = word.text.text() != "a" && word.text.text() == "b";
+        let kind = if self.has_variables() && is_b {
+            RefKind::SortB
+        } else {
+            RefKind::SortA
+        };
+        Ref {
+            kind,
+            index: 0,
+            at: word.at,
+        }
+    }
+}
