@@ -8,6 +8,7 @@ pub mod OpenedLemmas
 pub mod EventLemmas
 pub mod StartingLemmas
 pub mod GoalLemmas
+pub mod DividingLemmas
 pub mod PutLaws
 pub mod TextSorts
 pub mod RaisedWalk

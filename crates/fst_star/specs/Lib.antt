@@ -8,3 +8,4 @@ pub mod Size
 pub mod Plain
 pub mod Met
 pub mod Starting
+pub mod Divided

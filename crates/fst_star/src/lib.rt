@@ -2,6 +2,7 @@
 #![tactic(auto)]
 
 mod deciding;
+mod dividing;
 mod function_goals;
 mod gathering;
 mod laws;
@@ -12,6 +13,7 @@ mod starting;
 mod trail;
 mod wp;
 
+pub use dividing::term_needs;
 pub use function_goals::goals;
 pub use gathering::{Event, gather};
 pub use laws::{goals_law, paths_law, safe_law, valid_law};
