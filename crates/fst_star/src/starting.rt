@@ -14,7 +14,7 @@ ghost use Rattle.fst_terms.specs.Terms.{plain_term};
 use crate::putting::{put, with_last};
 use crate::raising::sum;
 use crate::trail::{Trail, copy_terms, count_of};
-use fst_base::{Name, OutOfMemory, Seq, Sort, pair};
+use fst_base::{Box, Name, OutOfMemory, Seq, Sort, pair};
 use fst_program::{Effect, Fun, Param, Program};
 use fst_terms::{Formula, Term, Var};
 use std::alloc::Global;
@@ -55,13 +55,13 @@ fn own_vars(alloc: Global, fun: &Fun) -> Result<Seq<Term>, OutOfMemory>
 
 /// The variable of a function's input.
 #[tactic(auto, using(fst_terms::proofs::PlainLemmas::plain_variants))]
-fn own_input(fun: &Fun) -> Term
-    ensures { plain_term result ≡ own_input (plain_fun fun.now) }
+fn own_input(alloc: Global, fun: &Fun) -> Result<Box<Term>, OutOfMemory>
+    ensures { IfOk result (λ made. plain_term made ≡ own_input (plain_fun fun.now)) }
 {
     if is_user(fun.effect) {
-        Term::Var(0)
+        Box::new(alloc, Term::Var(0))
     } else {
-        Term::Unit
+        Box::new(alloc, Term::Unit)
     }
 }
 
@@ -179,8 +179,8 @@ pub(crate) fn start(alloc: Global, program: &Program, fun: &Fun) -> Result<Trail
     ensures { IfOk result (λ w. plain_trail w ≡ start (plain_program program.now) (plain_fun fun.now)) }
 {
     let args = own_vars(alloc, fun)?;
-    let input = own_input(fun);
-    let hyps = demands_of(alloc, fun, args.as_slice(), &input);
+    let input = own_input(alloc, fun)?;
+    let hyps = demands_of(alloc, fun, args.as_slice(), input.get());
     let (vars, hyps) = pair(start_vars(alloc, program, fun), hyps)?;
     let choices = Seq::new(alloc);
     Ok(Trail {
@@ -195,6 +195,6 @@ pub(crate) fn own_terms(alloc: Global, fun: &Fun) -> Result<Seq<Term>, OutOfMemo
     ensures { IfOk result (λ made. terms_for made ≡ own_terms (plain_fun fun.now)) }
 {
     let args = own_vars(alloc, fun)?;
-    let input = own_input(fun);
-    clause_terms(alloc, fun.effect, args.as_slice(), &input)
+    let input = own_input(alloc, fun)?;
+    clause_terms(alloc, fun.effect, args.as_slice(), input.get())
 }

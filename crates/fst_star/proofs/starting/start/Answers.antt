@@ -1,4 +1,4 @@
-use Rattle.std.proofs.Common.{◌∙◌, map, ap}
+use Rattle.std.proofs.Common.{◌∙◌, map, ap₂}
 use Rattle.fst_terms.proofs.PrepareLemmas.{given}
 use Rattle.fst_terms.specs.Terms.{plain_term}
 use Rattle.fst_program.specs.Paths.{demands_of}
@@ -10,6 +10,6 @@ pub returns : goal.returns
 returns c =
     let ok = c.in_ok-vars.ensures.ok in
     started (plain_program c.args.program.now) (plain_fun c.args.fun.now) c.in_ok-vars.vars c.in_ok-args.args c.in_ok-vars.hyps _ _
-    (given _ c.start_vars.result _ c.start_vars.ensures ok.0) c.in_ok-args.ensures c.own_input-input.ensures
-    (given _ c.demands_of-hyps.result _ c.demands_of-hyps.ensures ok.1 ∙ ap (λ ts. demands_of (plain_fun c.args.fun.now) (map plain_term ts) (plain_term c.own_input-input.result)) c.as_slice.ensures)
+    (given _ c.start_vars.result _ c.start_vars.ensures ok.0) c.in_ok-args.ensures c.in_ok-input.ensures
+    (given _ c.demands_of-hyps.result _ c.demands_of-hyps.ensures ok.1 ∙ ap₂ (λ ts s. demands_of (plain_fun c.args.fun.now) (map plain_term ts) (plain_term s)) c.as_slice.ensures c.get.ensures)
     c.new-choices.ensures
