@@ -1,5 +1,7 @@
-use Rattle.std.proofs.Common.{◌∙◌, ◌∷◌, [], ◌++◌, map, ap, refl, sym, subst}
+use Rattle.std.proofs.Common.{◌≡◌, ◌∙◌, ◌∷◌, [], ◌++◌, map, ap, refl, sym, subst}
 use Rattle.std.proofs.lemmas.Result.{on_ok_weaker}
+use Rattle.fst_base.specs.Sorts.{plain_sort}
+use Rattle.fst_program.specs.Paths.{fresh}
 use Rattle.fst_terms.specs.Formulas.{put}
 use Rattle.fst_terms.specs.Terms.{plain_term}
 use Rattle.fst_star.specs.Met.{Enters, after_ends, met_events, plain_event, plain_trail}
@@ -23,7 +25,7 @@ pub gather-returns-in_ok-inner-in-Fresh : goal.gather-returns-in_ok-inner-in-Fre
 gather-returns-in_ok-inner-in-Fresh t c =
     let ok = c.in_ok-inner-in-Fresh.ensures.ok in
     on_ok_weaker c.gather-in-Fresh.result
-    (met-Fresh _ _ _ _ c.in-Fresh.name c.in-Fresh.name c.in-Fresh.sort c.in-Fresh.sort _ _ _ _ _ c.in-Fresh.is refl refl c.get-in-Fresh.ensures (given _ c.fresh-inner.result _ c.fresh-inner.ensures ok.0)
+    (met-Fresh _ _ _ _ c.in-Fresh.name c.in-Fresh.name c.in-Fresh.sort c.in-Fresh.sort _ _ _ _ _ c.in-Fresh.is refl refl c.get-in-Fresh.ensures (given (λ w. plain_trail w ≡ fresh c.in-Fresh.name (plain_sort c.in-Fresh.sort) (plain_trail c.args.trail.now)) c.fresh-inner.result _ c.fresh-inner.ensures ok.0)
     (ap terms_for c.as_slice.ensures ∙ given _ c.under.result _ c.under.ensures ok.1))
     c.gather-in-Fresh.ensures
 
