@@ -36,3 +36,5 @@ pub mod ExactTranslation
 pub mod FunctionLaws
 pub mod LawLemmas
 pub mod SizeLemmas
+pub mod PlainForms
+pub mod TranslatingLemmas

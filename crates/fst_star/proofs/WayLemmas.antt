@@ -5,6 +5,7 @@ use Rattle.fst_terms.specs.Terms.{plain_term, shift}
 use Rattle.fst_star.specs.declared.wp.Way.{Way}
 use Rattle.fst_star.specs.declared.wp.Wp.{Wp}
 use Rattle.fst_star.specs.Transformers.{Wts, w_none, w_way, wshift, ws_shift}
+use Rattle.fst_star.specs.Translating.{joined_ways}
 use Rattle.fst_star.proofs.Calls.{map-reverse}
 use Rattle.fst_star.specs.Plain.{plain_wp, plain_ways, terms_for}
 
@@ -12,12 +13,7 @@ pub map-twice : {A B C : Type 0} (f : A → B) (g : B → C) (xs : List A) → m
 map-twice f g [] = refl
 map-twice f g (x ∷ xs) = ap (λ ys. g (f x) ∷ ys) (map-twice f g xs)
 
--- ways after ways
-abbrev joined_ways : Wts → Wts → Wts
-joined_ways w_none vs = vs
-joined_ways (w_way c phi w more) vs = w_way c phi w (joined_ways more vs)
-
-plain-joined : (xs ys : List (Way Wp)) → plain_ways (xs ++ ys) ≡ joined_ways (plain_ways xs) (plain_ways ys)
+pub plain-joined : (xs ys : List (Way Wp)) → plain_ways (xs ++ ys) ≡ joined_ways (plain_ways xs) (plain_ways ys)
 plain-joined [] ys = refl
 plain-joined (x ∷ xs) ys = ap (w_way x.choice (plain_term x.given) (plain_wp x.rest)) (plain-joined xs ys)
 

@@ -83,7 +83,7 @@ fn con_of(term: &Term) -> Option<Con>
 }
 
 /// Whether the two constructors are the same.
-fn same_con(a: Con, b: Con) -> bool
+pub(crate) fn same_con(a: Con, b: Con) -> bool
     ensures { result ≡ same_con a b }
 {
     a == b

@@ -18,7 +18,7 @@ use fst_terms::{Formula, Term};
 use std::alloc::Global;
 
 /// A formula, or want of memory.
-type Made = Result<Formula, OutOfMemory>;
+pub(crate) type Made = Result<Formula, OutOfMemory>;
 
 const NOWHERE: Pos = Pos { at: 0 };
 
@@ -32,7 +32,7 @@ struct Division {
 
 /// `not formula`.
 #[tactic(auto, using(fst_terms::proofs::PlainLemmas::plain_variants))]
-fn negation(alloc: Global, formula: Made) -> Made
+pub(crate) fn negation(alloc: Global, formula: Made) -> Made
     ensures { IfOk result (λ made. (p : Term) × ((formula ≡ Ok p) × (plain_term made ≡ negation (plain_term p)))) }
 {
     let sides = boxes(alloc, Term::Bool(false), Term::Bool(true));
@@ -42,7 +42,7 @@ fn negation(alloc: Global, formula: Made) -> Made
 
 /// `left = right`.
 #[tactic(auto, using(fst_terms::proofs::PlainLemmas::plain_variants))]
-fn equation(alloc: Global, left: Made, right: Made) -> Made
+pub(crate) fn equation(alloc: Global, left: Made, right: Made) -> Made
     ensures { IfOk result (λ made. (p : Term) × ((q : Term) × ((left ≡ Ok p) × (right ≡ Ok q) × (plain_term made ≡ equation (plain_term p) (plain_term q))))) }
 {
     let (left, right) = pair(left, right)?;

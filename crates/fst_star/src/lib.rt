@@ -1,6 +1,7 @@
 //! Transformers of programs: their meaning, the translation of definition text, what is inferred for a function, and their goals.
 #![tactic(auto)]
 
+mod bodies;
 mod deciding;
 mod dividing;
 mod function_goals;
@@ -9,15 +10,22 @@ mod laws;
 mod making;
 mod putting;
 mod raising;
+mod selecting;
+mod sorting;
+mod standing;
 mod starting;
 mod trail;
+mod translating;
 mod wp;
 
+pub use bodies::Bodies;
 pub use dividing::term_needs;
 pub use function_goals::goals;
 pub use gathering::{Event, gather};
 pub use laws::{goals_law, paths_law, safe_law, valid_law};
 pub use putting::put;
 pub use raising::{raise, raise_wp};
+pub use standing::Place;
 pub use trail::Trail;
+pub use translating::star;
 pub use wp::{Way, Which, Wp};
