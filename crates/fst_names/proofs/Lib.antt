@@ -15,3 +15,5 @@ pub mod CheckEffectLemmas
 pub mod CheckProgramLemmas
 pub mod NameLemmas
 pub mod NameSortLemmas
+pub mod ReferenceLemmas
+pub mod NameTextLemmas

@@ -1,11 +1,11 @@
 -- Sorts with their names looked up, a variant of the tree at a time.
-use Rattle.std.proofs.Common.{◌≡◌, ap}
+use Rattle.std.proofs.Common.{◌≡◌, Some, None, refl, ap}
 use Rattle.fst_trees.specs.declared.word.Word.{Word}
 use Rattle.fst_trees.specs.declared.sort.SortTree.{SortTree}
 use Rattle.fst_trees.specs.declared.sort.SortTree.TheVariants as V
 use Rattle.fst_names.specs.Trees.{w_unit, w_bool, w_int, w_pair, w_opt, w_list, w_either, w_name}
 use Rattle.fst_names.specs.Names.{Tables, named_sort, kind_or_a, variable_kind, refer}
-use Rattle.fst_names.specs.Namings.{sort_named}
+use Rattle.fst_names.specs.Namings.{sort_named, note_named}
 use Rattle.fst_names.proofs.CheckSortLemmas.{plain-Unit, plain-Bool, plain-Int, plain-Pair, plain-Opt, plain-List, plain-Either, plain-Ident}
 
 pub name-Unit : (T : Tables) → sort_named T V.Unit ≡ w_unit
@@ -41,3 +41,13 @@ unfolding sort_named
 name-Ident T w = ap (named_sort T) (plain-Ident w)
 
 pub ruleset name_sorts = (name-Unit, name-Bool, name-Int, name-Pair, name-Opt, name-List, name-Either, name-Ident, plain-Unit, plain-Bool, plain-Int, plain-Pair, plain-Opt, plain-List, plain-Either, plain-Ident)
+
+pub note-None : (T : Tables) → note_named T None ≡ None
+unfolding note_named
+note-None T = refl
+
+pub note-Some : (T : Tables) (s : SortTree Word) → note_named T (Some s) ≡ Some (sort_named T s)
+unfolding note_named sort_named
+note-Some T s = refl
+
+pub ruleset name_notes = (note-None, note-Some)

@@ -14,13 +14,25 @@ use fst_trees::{Form, FormNode, Word};
 use std::alloc::Global;
 
 /// An equal word.
-fn copy_word(alloc: Global, word: &Word) -> Result<Word, OutOfMemory>
+pub fn copy_word(alloc: Global, word: &Word) -> Result<Word, OutOfMemory>
     ensures { IfOk result (λ w. w ≡ word.now) }
 {
     Ok(Word {
         text: word.text.copy(alloc)?,
         at: word.at,
     })
+}
+
+/// Equal words.
+pub fn copy_words(alloc: Global, words: &[Word]) -> Result<Seq<Word>, OutOfMemory>
+    ensures { IfOk result (λ copies. copies ≡ words.now) }
+{
+    let mut copies = Seq::new(alloc);
+    for word in words {
+        let copy = copy_word(alloc, word)?;
+        copies.push(copy)?;
+    }
+    Ok(copies)
 }
 
 /// A term or a formula at its place.
@@ -77,7 +89,7 @@ pub fn name_form<'a>(
 /// These with their names looked up.
 #[cycle(name)]
 #[tactic(auto, using(crate::proofs::NameLemmas::name_lists))]
-fn name_forms<'a>(
+pub fn name_forms<'a>(
     alloc: Global,
     tables: &Tables<'_, 'a>,
     forms: &'a [Form<Word>],

@@ -1,7 +1,7 @@
 //! Sorts with their names looked up.
 
-ghost use Rattle.std.specs.Prelude.{◌≡◌, IfOk};
-ghost use Rattle.fst_names.specs.Namings.{sort_named};
+ghost use Rattle.std.specs.Prelude.{◌≡◌, IfOk, option_map};
+ghost use Rattle.fst_names.specs.Namings.{sort_named, note_named};
 ghost use Rattle.fst_names.specs.Looked.{tables_in};
 ghost use Rattle.fst_names.specs.Trees.{plain_wsort};
 
@@ -43,5 +43,23 @@ pub fn name_sort(
             Ok(SortTree::Either(left, right))
         }
         SortTree::Ident(word) => Ok(SortTree::Ident(tables.sort_ref(word))),
+    }
+}
+
+/// A sort that may be written, with its names looked up.
+#[tactic(auto, using(crate::proofs::NameSortLemmas::name_notes))]
+pub fn name_note(
+    alloc: Global,
+    tables: &Tables<'_, '_>,
+    note: &Option<SortTree<Word>>,
+) -> Result<Option<SortTree<Ref>>, OutOfMemory>
+    ensures { IfOk result (λ s. option_map plain_wsort s ≡ note_named (tables_in tables.now) note.now) }
+{
+    match note {
+        None => Ok(None),
+        Some(tree) => {
+            let tree = name_sort(alloc, tables, tree)?;
+            Ok(Some(tree))
+        }
     }
 }

@@ -1,13 +1,13 @@
 //! What uses of names stand for.
 
 ghost use Rattle.std.specs.Prelude.{◌≡◌, IfOk};
-ghost use Rattle.fst_names.specs.Names.{local, refer, kind_or_a, variable_kind};
+ghost use Rattle.fst_names.specs.Names.{local, refer, kind_or_a, variable_kind, run_use, number_of, runs_of};
 ghost use Rattle.fst_names.specs.Looked.{tables_in};
 ghost use Rattle.fst_names.specs.Scopes.{names_in};
 
 use crate::reference::{Ref, RefKind};
 use crate::scope::Scope;
-use crate::tables::Tables;
+use crate::tables::{Tables, run_number};
 use fst_base::OutOfMemory;
 use fst_trees::Word;
 
@@ -43,6 +43,29 @@ impl<'t, 'a> Tables<'t, 'a> {
             at: word.at,
         }
     }
+
+    /// What an effect's name stands for: the first of its name.
+    pub fn effect_ref(&self, word: &Word) -> Ref
+        ensures { result ≡ ((tables_in self.now).effect word.now).reference }
+    {
+        Ref {
+            kind: RefKind::Effect,
+            index: self.globals.effect(&word.text).unwrap_or(0),
+            at: word.at,
+        }
+    }
+
+    /// What a called name stands for: in the text of a definition one of the header's computations, else a function.
+    #[tactic(auto, using(crate::proofs::ReferenceLemmas::calls))]
+    pub fn called_ref(&self, word: &Word) -> Ref
+        ensures { result ≡ ((tables_in self.now).called word.now).reference }
+    {
+        match self.header {
+            Some(header) => run_ref(header, word),
+            None => self.applied_ref(word),
+        }
+    }
+
     /// What a name of a sort stands for. A name that is none counts as the first sort variable.
     pub fn sort_ref(&self, word: &Word) -> Ref
         ensures { result ≡ refer (kind_or_a (tables_in self.now) (variable_kind (tables_in self.now) word.now.text)) 0 word.now }
@@ -58,5 +81,20 @@ impl<'t, 'a> Tables<'t, 'a> {
             index: 0,
             at: word.at,
         }
+    }
+}
+
+/// One of a header's computations. A name that is none counts as the first.
+fn run_ref(header: &[Word], word: &Word) -> Ref
+    ensures { result ≡ (run_use word.now (number_of word.now.text (runs_of header.now))).reference }
+{
+    let kind = match run_number(header, word) {
+        None | Some(0) => RefKind::RunF,
+        Some(_) => RefKind::RunG,
+    };
+    Ref {
+        kind,
+        index: 0,
+        at: word.at,
     }
 }

@@ -112,7 +112,7 @@ fn called_run(header: &[Word], word: &Word) -> Called
 
 /// The number of the computation of the name, among all names of the header but the last.
 #[tactic(auto, using(crate::proofs::WordLemmas::runs))]
-fn run_number(header: &[Word], word: &Word) -> Option<usize>
+pub fn run_number(header: &[Word], word: &Word) -> Option<usize>
     ensures { result ≡ number_of word.now.text (runs_of header.now) }
 {
     let count = header.len().saturating_sub(1);
