@@ -1,5 +1,6 @@
-ghost use Rattle.std.specs.Prelude.{◌<◌, ℕ, length, get_or, IsTrue};
+ghost use Rattle.std.specs.Prelude.{◌<◌, ◌↔◌, ℕ, length, get_or, IsTrue};
 ghost use Rattle.fst_congruence.specs.Closures.{IsGivenLine, GivenLines};
+ghost use Rattle.fst_congruence.specs.Joined.{node_at};
 ghost use Rattle.fst_congruence.specs.Steps.{IsTable, NodeFits, SidesWithin};
 
 use crate::equation::Equation;
@@ -8,7 +9,7 @@ use fst_cert::Line;
 
 /// Whether a term has as many arguments as its constructor asks for, if it has one, and these are terms of a table of so many.
 fn is_node(node: &Node, count: usize) -> bool
-    ensures { IsTrue result → NodeFits node.now count }
+    ensures { IsTrue result ↔ NodeFits node.now count }
 {
     let wanted = match node.constructor {
         3 => 2,
@@ -23,7 +24,7 @@ fn is_node(node: &Node, count: usize) -> bool
 }
 
 fn all_below(numbers: &[u32], count: usize) -> bool
-    ensures { IsTrue result → (k : ℕ) → k < length numbers.now → get_or numbers.now k 0 < count }
+    ensures { IsTrue result ↔ ((k : ℕ) → k < length numbers.now → get_or numbers.now k 0 < count) }
 {
     for at in 0..numbers.len() {
         if numbers[at] as usize >= count {
@@ -35,7 +36,8 @@ fn all_below(numbers: &[u32], count: usize) -> bool
 
 /// Whether these are a table of terms: arguments are terms of it, and constructors have their arities.
 pub fn is_table(nodes: &[Node]) -> bool
-    ensures { IsTrue result → IsTable nodes.now }
+    ensures table { IsTrue result → IsTable nodes.now }
+    ensures exact { IsTrue result ↔ ((i : ℕ) → i < length nodes.now → NodeFits (node_at nodes.now i) (length nodes.now)) }
 {
     for at in 0..nodes.len() {
         if !is_node(&nodes[at], nodes.len()) {
@@ -47,7 +49,7 @@ pub fn is_table(nodes: &[Node]) -> bool
 
 /// Whether the line gives an equation by itself.
 fn is_given(line: &Line) -> bool
-    ensures { IsTrue result → IsGivenLine line.now }
+    ensures { IsTrue result ↔ IsGivenLine line.now }
 {
     match line {
         Line::Given(_) => true,
@@ -58,7 +60,7 @@ fn is_given(line: &Line) -> bool
 }
 
 fn is_equation(equation: &Equation, count: usize) -> bool
-    ensures { IsTrue result → (equation.now.left < count) × (equation.now.right < count) × IsGivenLine equation.now.by }
+    ensures { IsTrue result ↔ ((equation.now.left < count) × (equation.now.right < count) × IsGivenLine equation.now.by) }
 {
     (equation.left as usize) < count && (equation.right as usize) < count && is_given(&equation.by)
 }
@@ -67,6 +69,7 @@ fn is_equation(equation: &Equation, count: usize) -> bool
 pub fn are_equations(equations: &[Equation], count: usize) -> bool
     ensures sides { IsTrue result → SidesWithin equations.now count }
     ensures given { IsTrue result → GivenLines equations.now }
+    ensures exact { SidesWithin equations.now count → GivenLines equations.now → IsTrue result }
 {
     for at in 0..equations.len() {
         if !is_equation(&equations[at], count) {

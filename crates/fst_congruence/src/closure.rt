@@ -1,4 +1,4 @@
-ghost use Rattle.std.specs.Prelude.{◌≡◌, ◌<◌, length, IfOk, IsTrue};
+ghost use Rattle.std.specs.Prelude.{◌≡◌, ◌<◌, ◌↔◌, length, IfOk, IsTrue};
 ghost use Rattle.fst_congruence.specs.Classes.{label_at};
 ghost use Rattle.fst_congruence.specs.Closures.{Explains};
 ghost use Rattle.fst_congruence.specs.Explained.{AreGiven, Gives};
@@ -45,7 +45,7 @@ impl Closure {
 
     /// Whether this is the number of a term.
     pub fn numbers(&self, term: u32) -> bool
-        ensures { IsTrue result → (term < length self.now.labels) × (0 < (node_at self.now.nodes term).kind) }
+        ensures { IsTrue result ↔ ((term < length self.now.labels) × (0 < (node_at self.now.nodes term).kind)) }
     {
         let nodes = self.nodes.as_slice();
         (term as usize) < nodes.len() && nodes[term as usize].kind != 0
