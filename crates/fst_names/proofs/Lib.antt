@@ -17,3 +17,4 @@ pub mod NameLemmas
 pub mod NameSortLemmas
 pub mod ReferenceLemmas
 pub mod NameTextLemmas
+pub mod NameDmLemmas

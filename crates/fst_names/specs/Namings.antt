@@ -1,5 +1,5 @@
 -- What a tree of the code is with its names looked up.
-use Rattle.std.specs.Prelude.{List, Option, option_map}
+use Rattle.std.specs.Prelude.{ℕ, List, Option, option_map}
 use Rattle.fst_base.specs.declared.place.Pos.{Pos}
 use Rattle.fst_trees.specs.declared.word.Word.{Word}
 use Rattle.fst_trees.specs.declared.sort.SortTree.{SortTree}
@@ -40,6 +40,10 @@ part_named T xs p = part_node_named T xs p.at p.node
 
 unfoldable pub arms_named : Tables → Names → List (ArmTree (BodyTree Word)) → WArms Ref
 arms_named T xs arms = named_arms T xs (plain_arms arms)
+
+-- the place of a use of a name
+abbrev pub ref_at : Ref → ℕ
+ref_at r = r.at.at
 
 -- the text of a definition
 unfoldable pub dm_named : Tables → Names → DmTree Word → WText Ref

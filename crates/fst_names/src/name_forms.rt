@@ -52,6 +52,7 @@ pub fn name_form<'a>(
     scope: &mut Scope<'a>,
 ) -> Result<Form<Ref>, OutOfMemory>
     ensures form { IfOk result (λ f. plain_form f ≡ form_named (tables_in tables.now) (names_in scope.old) form.now) }
+    ensures at { IfOk result (λ f. f.at ≡ form.now.at) }
     ensures scope { OnOk result (names_in scope.new ≡ names_in scope.old) }
 {
     let at = form.at;

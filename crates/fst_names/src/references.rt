@@ -31,7 +31,8 @@ impl<'a> Scope<'a> {
 impl<'t, 'a> Tables<'t, 'a> {
     /// What an applied function stands for: the first of its name.
     pub fn applied_ref(&self, word: &Word) -> Ref
-        ensures { result ≡ ((tables_in self.now).applied word.now).reference }
+        ensures reference { result ≡ ((tables_in self.now).applied word.now).reference }
+        ensures at { result.at ≡ word.now.at }
     {
         let index = match self.globals.fun(&word.text) {
             Some((number, _)) => number,
@@ -58,7 +59,8 @@ impl<'t, 'a> Tables<'t, 'a> {
     /// What a called name stands for: in the text of a definition one of the header's computations, else a function.
     #[tactic(auto, using(crate::proofs::ReferenceLemmas::calls))]
     pub fn called_ref(&self, word: &Word) -> Ref
-        ensures { result ≡ ((tables_in self.now).called word.now).reference }
+        ensures reference { result ≡ ((tables_in self.now).called word.now).reference }
+        ensures at { result.at ≡ word.now.at }
     {
         match self.header {
             Some(header) => run_ref(header, word),
@@ -86,7 +88,8 @@ impl<'t, 'a> Tables<'t, 'a> {
 
 /// One of a header's computations. A name that is none counts as the first.
 fn run_ref(header: &[Word], word: &Word) -> Ref
-    ensures { result ≡ (run_use word.now (number_of word.now.text (runs_of header.now))).reference }
+    ensures reference { result ≡ (run_use word.now (number_of word.now.text (runs_of header.now))).reference }
+    ensures at { result.at ≡ word.now.at }
 {
     let kind = match run_number(header, word) {
         None | Some(0) => RefKind::RunF,
