@@ -18,3 +18,4 @@ pub mod NameSortLemmas
 pub mod ReferenceLemmas
 pub mod NameTextLemmas
 pub mod NameDmLemmas
+pub mod NameEffectLemmas

@@ -10,9 +10,11 @@ use Rattle.fst_trees.specs.declared.body.BodyTree.{BodyTree}
 use Rattle.fst_trees.specs.declared.body.PartTree.{PartTree}
 use Rattle.fst_trees.specs.declared.body.PartNode.{PartNode}
 use Rattle.fst_trees.specs.declared.definition.DmTree.{DmTree}
+use Rattle.fst_trees.specs.declared.decl.EffectTree.{EffectTree}
+use Rattle.fst_trees.specs.declared.decl.LiftTree.{LiftTree}
 use Rattle.fst_names.specs.declared.reference.Ref.{Ref}
-use Rattle.fst_names.specs.Trees.{WForm, WForms, WSort, WText, WPart, WArms, plain_node, plain_forms, plain_wsort, plain_text, plain_part_node, plain_arms, plain_dm, plain_dm_arms, word_at}
-use Rattle.fst_names.specs.Names.{Tables, Names, named_form, named_forms, named_sort, named_text, named_part, named_arms}
+use Rattle.fst_names.specs.Trees.{WForm, WForms, WSort, WText, WPart, WArms, WEffect, WLift, plain_node, plain_forms, plain_wsort, plain_text, plain_part_node, plain_arms, plain_dm, plain_dm_arms, plain_weffect, plain_wlift, word_at}
+use Rattle.fst_names.specs.Names.{Tables, Names, named_form, named_forms, named_sort, named_text, named_part, named_arms, Globals, Before, named_effect_decl, named_lift_decl}
 
 unfoldable pub node_named : Tables → Names → Pos → FormNode Word → WForm Ref
 node_named T xs at n = named_form T xs (plain_node at n)
@@ -51,3 +53,10 @@ dm_named T xs c = named_text T xs (plain_dm word_at c)
 
 unfoldable pub dm_arms_named : Tables → Names → List (ArmTree (DmTree Word)) → WArms Ref
 dm_arms_named T xs arms = named_arms T xs (plain_dm_arms word_at arms)
+
+-- an effect and a lift, of which this much stands before
+unfoldable pub effect_named : Globals → Before → EffectTree Word → WEffect Ref
+effect_named G b e = named_effect_decl G b (plain_weffect word_at e)
+
+unfoldable pub lift_named : Globals → Before → LiftTree Word → WLift Ref
+lift_named G b l = named_lift_decl G b (plain_wlift word_at l)

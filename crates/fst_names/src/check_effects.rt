@@ -41,7 +41,7 @@ fn check_effect_word(globals: &Globals<'_>, before: Before, word: &Word) -> Opti
 
 /// What the names of a return and of an effect's sorts are looked up in: there are no computations. Of the words the empty
 /// part is taken.
-fn return_tables<'t, 'a>(
+pub fn return_tables<'t, 'a>(
     globals: &'t Globals<'a>,
     before: Before,
     words: &'t [Word],
@@ -56,7 +56,7 @@ fn return_tables<'t, 'a>(
 }
 
 /// The scope of a return: its names are all variables.
-fn variable_scope<'a>(alloc: Global, names: &'a [Word]) -> Result<Scope<'a>, OutOfMemory>
+pub fn variable_scope<'a>(alloc: Global, names: &'a [Word]) -> Result<Scope<'a>, OutOfMemory>
     ensures { IfOk result (λ scope. names_in scope ≡ binding names.now []) }
 {
     let mut scope = Scope::new(alloc);
@@ -82,7 +82,7 @@ fn check_return<'a>(
 
 /// The scope of a bind or a lift: the last of its names is that of the input, and the others are computations.
 #[tactic(auto, using(crate::proofs::CheckEffectLemmas::inputs))]
-fn input_scope<'a>(alloc: Global, names: &'a [Word]) -> Result<Scope<'a>, OutOfMemory>
+pub fn input_scope<'a>(alloc: Global, names: &'a [Word]) -> Result<Scope<'a>, OutOfMemory>
     ensures { IfOk result (λ scope. names_in scope ≡ input_of names.now) }
 {
     let mut scope = Scope::new(alloc);
