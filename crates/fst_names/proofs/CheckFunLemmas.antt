@@ -88,7 +88,7 @@ pub ruleset params = (scope-step, twice-step, params-none, params-step)
 
 -- ---- whole functions
 
-names-plain : (ps : List (ParamTree Word)) → map (λ (p : WParam Word). p.name) (map plain_wparam ps) ≡ param_names ps
+pub names-plain : (ps : List (ParamTree Word)) → map (λ (p : WParam Word). p.name) (map plain_wparam ps) ≡ param_names ps
 names-plain [] = refl
 names-plain (p ∷ ps) = ap (λ ws. p.name ∷ ws) (names-plain ps)
 

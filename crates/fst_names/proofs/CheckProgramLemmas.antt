@@ -14,7 +14,7 @@ use Rattle.fst_names.specs.Names.{Names, Globals, Before, FunHead, start, after,
 use Rattle.fst_names.specs.Declarations.{effect_breaks, lift_breaks, fun_breaks, decl_breaks, decls_break, with_decl, all_of, behind, count_of}
 use Rattle.fst_names.proofs.BrokenLemmas.{first-append, is_there}
 
-abbrev plain : List (Decl Word) → List (WDecl Word)
+abbrev pub plain : List (Decl Word) → List (WDecl Word)
 plain ds = map (plain_decl word_at) ds
 
 -- ---- a declaration
@@ -35,7 +35,7 @@ pub ruleset decls = (decl-Effect, decl-Lift, decl-Fun)
 
 -- ---- one more declaration
 
-plain-more : (ds : List (Decl Word)) (i : ℕ) (d : Decl Word) → d ≡ get_or ds i d → i < length ds → plain (take (i + 1) ds) ≡ plain (take i ds) ++ plain_decl word_at d ∷ []
+pub plain-more : (ds : List (Decl Word)) (i : ℕ) (d : Decl Word) → d ≡ get_or ds i d → i < length ds → plain (take (i + 1) ds) ≡ plain (take i ds) ++ plain_decl word_at d ∷ []
 plain-more ds i d e h = ap plain (take_more ds i d h ∙ ap (λ c. take i ds ++ c ∷ []) (sym e)) ∙ map-append (plain_decl word_at) (take i ds) (d ∷ [])
 
 behind-more : (b : Before) (ds : List (WDecl Word)) (d : WDecl Word) → behind b (ds ++ d ∷ []) ≡ after (behind b ds) d

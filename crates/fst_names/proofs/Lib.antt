@@ -19,3 +19,5 @@ pub mod ReferenceLemmas
 pub mod NameTextLemmas
 pub mod NameDmLemmas
 pub mod NameEffectLemmas
+pub mod NameFunLemmas
+pub mod NameProgramLemmas

@@ -7,3 +7,4 @@ pub mod Looked
 pub mod Checks
 pub mod Declarations
 pub mod Namings
+pub mod NamedDeclarations

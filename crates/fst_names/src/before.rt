@@ -44,6 +44,16 @@ impl Before {
         if joined { self.group } else { self.funs }
     }
 
+    /// What stands before a function, counted with its own group.
+    pub fn own(self, joined: bool) -> Before
+        ensures { before_in result ≡ record { group = group_of joined (before_in self); funs = self.funs; effects = self.effects } }
+    {
+        Before {
+            group: self.group_of(joined),
+            ..self
+        }
+    }
+
     /// What stands before the next declaration.
     pub fn after(self, decl: &Decl<Word>) -> Result<Before, OutOfMemory>
         ensures { IfOk result (λ next. before_in next ≡ after (before_in self) (plain_decl word_at decl.now)) }

@@ -170,13 +170,9 @@ pub fn check_fun<'a>(
 ) -> Result<Option<Broken>, OutOfMemory>
     ensures { IfOk result (λ found. found ≡ fun_breaks globals.now (before_in before) fun.now) }
 {
-    let own = Before {
-        group: before.group_of(fun.joined),
-        ..before
-    };
     let tables = Tables {
         globals,
-        before: own,
+        before: before.own(fun.joined),
         header: None,
     };
     let mut scope = Scope::new(alloc);

@@ -39,7 +39,7 @@ fn put_decl<'a>(
 
 /// All functions and effects of the program.
 #[tactic(auto, using(crate::proofs::CheckProgramLemmas::gathers))]
-fn gather<'a>(alloc: Global, decls: &'a [Decl<Word>]) -> Result<Globals<'a>, OutOfMemory>
+pub fn gather<'a>(alloc: Global, decls: &'a [Decl<Word>]) -> Result<Globals<'a>, OutOfMemory>
     ensures { IfOk result (λ globals. globals ≡ all_of decls.now) }
 {
     let mut globals = Globals::new(alloc);
