@@ -27,7 +27,7 @@ mod tables;
 mod words;
 
 pub use before::Before;
-pub use broken::Broken;
+pub use broken::{Broken, inner, least, unless};
 pub use check_definitions::check_dm;
 pub use check_forms::check_form;
 pub use check_programs::check_program;
