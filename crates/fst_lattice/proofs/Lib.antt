@@ -1,3 +1,3 @@
-mod PathTables
+pub mod PathTables
 mod TableLemmas
 mod LatticeLemmas

@@ -1,0 +1,5 @@
+pub mod Known
+pub mod TermSorts
+pub mod Patterns
+pub mod TextSorts
+pub mod Definitions
