@@ -1,51 +1,31 @@
-//! Bodies of functions and their parts. Their functions take the reader of a nested body as a parameter, so that each is
-//! proved by itself.
+//! Bodies of functions and their parts.
 
-ghost use Rattle.std.specs.Prelude.{◌≡◌, ◌<◌, ◌≤◌, [], ◌∷◌, length, OnOk};
+ghost use Rattle.std.specs.Prelude.{◌≡◌, ◌<◌, ◌≤◌, length, OnOk};
 ghost use Rattle.fst_syntax.specs.Productions as n;
-ghost use Rattle.fst_syntax.specs.Reading.{Reads, reads, run, behind};
+ghost use Rattle.fst_syntax.specs.Reading.{Reads, reads, run};
 ghost use Rattle.fst_syntax.specs.Tails as tails;
-ghost use Rattle.fst_syntax.specs.Nests.{NestsBody};
+ghost use Rattle.fst_reader.specs.Texts.{Nests};
+ghost use Rattle.fst_reader.specs.Kinds.{bodies};
 
 use crate::parts::{named_part, reified, term_part};
-use fst_base::{Box, Seq, both};
-use fst_syntax::{Binding, Pattern, Stop, Terminal};
+use crate::texts::{Text, Texts};
+use fst_base::{Box, both};
+use fst_syntax::{Binding, Stop, Terminal};
 use fst_term_reader::Reader;
-use fst_trees::{ArmTree, BodyTree, PartNode, PartTree, Word};
+use fst_trees::{BodyTree, PartNode, PartTree, Word};
 
-/// The readers of the parts of a body.
-#[derive(Clone, Copy)]
-pub struct Bodies<F> {
-    /// More than the tokens that are left at a nested body.
-    pub room: usize,
-    /// The reader of a nested body.
-    pub body: F,
+impl Text<PartTree<Word>> for BodyTree<Word> {
+    ghost kind = { bodies };
 }
 
-impl<F: Fn(&mut Reader<'_>, usize) -> Result<BodyTree<Word>, Stop>> Bodies<F> {
-    fn nested(&self, reader: &mut Reader<'_>) -> Result<BodyTree<Word>, Stop>
-        requires nests { NestsBody self.now.room (F.pre self.now.body) (F.post self.now.body) }
-        requires room { length reader.old < self.now.room }
-        ensures reads { Reads (reads n.body reader.old) result reader.new }
-        ensures shorter { OnOk result (length reader.new < length reader.old) }
-    {
-        (self.body)(reader, self.room)
-    }
-
-    /// A nested body on the heap.
-    fn boxed(&self, reader: &mut Reader<'_>) -> Result<Box<BodyTree<Word>>, Stop>
-        requires nests { NestsBody self.now.room (F.pre self.now.body) (F.post self.now.body) }
-        requires room { length reader.old < self.now.room }
-        ensures reads { Reads (reads n.body reader.old) result reader.new }
-        ensures shorter { OnOk result (length reader.new < length reader.old) }
-    {
-        let body = self.nested(reader)?;
-        Ok(Box::new(reader.alloc(), body)?)
-    }
-
+impl<
+    F: Fn(&mut Reader<'_>, usize) -> Result<BodyTree<Word>, Stop>,
+    G: Fn(&mut Reader<'_>, usize) -> Result<PartTree<Word>, Stop>,
+> Texts<F, G> {
     #[tactic(auto, using(fst_syntax::proofs::Opens::opens))]
-    pub fn whole(&self, reader: &mut Reader<'_>) -> Result<BodyTree<Word>, Stop>
-        requires nests { NestsBody self.now.room (F.pre self.now.body) (F.post self.now.body) }
+    pub fn body(&self, reader: &mut Reader<'_>) -> Result<BodyTree<Word>, Stop>
+        requires nests { Nests (reads n.body) self.now.room (F.pre self.now.text) (F.post self.now.text) }
+        requires parts { Nests (reads n.part) self.now.room (G.pre self.now.part) (G.post self.now.part) }
         requires room { length reader.old ≤ self.now.room }
         ensures reads { Reads (reads n.body reader.old) result reader.new }
         ensures shorter { OnOk result (length reader.new < length reader.old) }
@@ -72,7 +52,7 @@ impl<F: Fn(&mut Reader<'_>, usize) -> Result<BodyTree<Word>, Stop>> Bodies<F> {
                 Ok(body)
             }
             _ => {
-                let part = self.part(reader)?;
+                let part = self.body_part(reader)?;
                 Ok(BodyTree::Part(part))
             }
         }
@@ -80,36 +60,34 @@ impl<F: Fn(&mut Reader<'_>, usize) -> Result<BodyTree<Word>, Stop>> Bodies<F> {
 
     #[tactic(auto, using(fst_syntax::proofs::Opens::opens))]
     fn ghost_let(&self, reader: &mut Reader<'_>) -> Result<BodyTree<Word>, Stop>
-        requires nests { NestsBody self.now.room (F.pre self.now.body) (F.post self.now.body) }
+        requires nests { Nests (reads n.body) self.now.room (F.pre self.now.text) (F.post self.now.text) }
+        requires parts { Nests (reads n.part) self.now.room (G.pre self.now.part) (G.post self.now.part) }
         requires room { length reader.old ≤ self.now.room }
         ensures reads { Reads (reads n.ghost_let reader.old) result reader.new }
         ensures shorter { OnOk result (length reader.new < length reader.old) }
     {
         reader.expect(Terminal::Ghost)?;
-        reader.expect(Terminal::Let)?;
-        let binding = self.binding(reader)?;
-        let (binding, rest) = both(binding, self.boxed(reader))?;
+        let (binding, rest) = self.let_in(reader)?;
         let Binding { name, sort, part } = binding;
         Ok(BodyTree::GhostLet(name, sort, part, rest))
     }
 
     #[tactic(auto, using(fst_syntax::proofs::Opens::opens))]
     fn plain_let(&self, reader: &mut Reader<'_>) -> Result<BodyTree<Word>, Stop>
-        requires nests { NestsBody self.now.room (F.pre self.now.body) (F.post self.now.body) }
+        requires nests { Nests (reads n.body) self.now.room (F.pre self.now.text) (F.post self.now.text) }
+        requires parts { Nests (reads n.part) self.now.room (G.pre self.now.part) (G.post self.now.part) }
         requires room { length reader.old ≤ self.now.room }
         ensures reads { Reads (reads n.plain_let reader.old) result reader.new }
         ensures shorter { OnOk result (length reader.new < length reader.old) }
     {
-        reader.expect(Terminal::Let)?;
-        let binding = self.binding(reader)?;
-        let (binding, rest) = both(binding, self.boxed(reader))?;
+        let (binding, rest) = self.let_in(reader)?;
         let Binding { name, sort, part } = binding;
         Ok(BodyTree::Let(name, sort, part, rest))
     }
 
     #[tactic(auto, using(fst_syntax::proofs::Opens::opens))]
     fn assertion(&self, reader: &mut Reader<'_>) -> Result<BodyTree<Word>, Stop>
-        requires nests { NestsBody self.now.room (F.pre self.now.body) (F.post self.now.body) }
+        requires nests { Nests (reads n.body) self.now.room (F.pre self.now.text) (F.post self.now.text) }
         requires room { length reader.old ≤ self.now.room }
         ensures reads { Reads (reads n.assertion reader.old) result reader.new }
         ensures shorter { OnOk result (length reader.new < length reader.old) }
@@ -121,7 +99,7 @@ impl<F: Fn(&mut Reader<'_>, usize) -> Result<BodyTree<Word>, Stop>> Bodies<F> {
     }
 
     fn asserted(&self, reader: &mut Reader<'_>) -> Result<Box<BodyTree<Word>>, Stop>
-        requires nests { NestsBody self.now.room (F.pre self.now.body) (F.post self.now.body) }
+        requires nests { Nests (reads n.body) self.now.room (F.pre self.now.text) (F.post self.now.text) }
         requires room { length reader.old ≤ self.now.room }
         ensures reads { Reads (run tails.asserted reader.old) result reader.new }
         ensures shorter { OnOk result (length reader.new < length reader.old) }
@@ -133,162 +111,41 @@ impl<F: Fn(&mut Reader<'_>, usize) -> Result<BodyTree<Word>, Stop>> Bodies<F> {
 
     #[tactic(auto, using(fst_syntax::proofs::Opens::opens))]
     fn branching(&self, reader: &mut Reader<'_>) -> Result<BodyTree<Word>, Stop>
-        requires nests { NestsBody self.now.room (F.pre self.now.body) (F.post self.now.body) }
+        requires nests { Nests (reads n.body) self.now.room (F.pre self.now.text) (F.post self.now.text) }
         requires room { length reader.old ≤ self.now.room }
         ensures reads { Reads (reads n.branching reader.old) result reader.new }
         ensures shorter { OnOk result (length reader.new < length reader.old) }
     {
-        reader.expect(Terminal::If)?;
-        let condition = reader.term()?;
-        let (condition, (yes, no)) = both(condition, self.two_bodies(reader))?;
+        let (condition, (yes, no)) = self.branches(reader)?;
         Ok(BodyTree::If(condition, yes, no))
-    }
-
-    fn two_bodies(
-        &self,
-        reader: &mut Reader<'_>,
-    ) -> Result<(Box<BodyTree<Word>>, Box<BodyTree<Word>>), Stop>
-        requires nests { NestsBody self.now.room (F.pre self.now.body) (F.post self.now.body) }
-        requires room { length reader.old ≤ self.now.room }
-        ensures reads { Reads (run tails.two_bodies reader.old) result reader.new }
-        ensures shorter { OnOk result (length reader.new < length reader.old) }
-    {
-        reader.expect(Terminal::Then)?;
-        let yes = self.boxed(reader)?;
-        reader.expect(Terminal::Else)?;
-        let no = self.boxed(reader)?;
-        Ok((yes, no))
     }
 
     #[tactic(auto, using(fst_syntax::proofs::Opens::opens))]
     fn matching(&self, reader: &mut Reader<'_>) -> Result<BodyTree<Word>, Stop>
-        requires nests { NestsBody self.now.room (F.pre self.now.body) (F.post self.now.body) }
+        requires nests { Nests (reads n.body) self.now.room (F.pre self.now.text) (F.post self.now.text) }
         requires room { length reader.old ≤ self.now.room }
         ensures reads { Reads (reads n.matching reader.old) result reader.new }
         ensures shorter { OnOk result (length reader.new < length reader.old) }
     {
-        let at = reader.expect(Terminal::Match)?;
-        let scrutinee = reader.term()?;
-        let (scrutinee, arms) = both(scrutinee, self.with_arms(reader))?;
+        let (at, (scrutinee, arms)) = self.cases(reader)?;
         Ok(BodyTree::Match(scrutinee, at, arms))
     }
 
-    fn with_arms(&self, reader: &mut Reader<'_>) -> Result<Seq<ArmTree<BodyTree<Word>>>, Stop>
-        requires nests { NestsBody self.now.room (F.pre self.now.body) (F.post self.now.body) }
-        requires room { length reader.old ≤ self.now.room }
-        ensures reads { Reads (run tails.with_arms reader.old) result reader.new }
-        ensures shorter { OnOk result (length reader.new < length reader.old) }
-    {
-        reader.expect(Terminal::With)?;
-        let arms = self.arms(reader)?;
-        reader.expect(Terminal::EndWord)?;
-        Ok(arms)
-    }
-
-    #[tactic(auto, using(fst_syntax::proofs::Runs::arms_opens))]
-    fn arms(&self, reader: &mut Reader<'_>) -> Result<Seq<ArmTree<BodyTree<Word>>>, Stop>
-        requires nests { NestsBody self.now.room (F.pre self.now.body) (F.post self.now.body) }
-        requires room { length reader.old ≤ self.now.room }
-        ensures reads { Reads (reads n.arms reader.old) result reader.new }
-        ensures shorter { OnOk result (length reader.new < length reader.old) }
-    {
-        let first = self.arm(reader)?;
-        let arms = self.arms_more(reader, first)?;
-        Ok(arms)
-    }
-
-    /// The arms behind a first one, with that one.
-    fn arms_more(
-        &self,
-        reader: &mut Reader<'_>,
-        first: ArmTree<BodyTree<Word>>,
-    ) -> Result<Seq<ArmTree<BodyTree<Word>>>, Stop>
-        requires nests { NestsBody self.now.room (F.pre self.now.body) (F.post self.now.body) }
-        requires room { length reader.old ≤ self.now.room }
-        ensures reads { Reads (behind (first ∷ []) (reads n.arms_more reader.old)) result reader.new }
-        ensures no_longer { OnOk result (length reader.new ≤ length reader.old) }
-    {
-        let mut arms = Seq::new(reader.alloc());
-        arms.push(first)?;
-        'arms: while reader.at(Terminal::Bar) {
-            let arm = self.arm(reader)?;
-            arms.push(arm)?;
-        }
-        Ok(arms)
-    }
-
-    #[tactic(auto, using(fst_syntax::proofs::Opens::opens))]
-    fn arm(&self, reader: &mut Reader<'_>) -> Result<ArmTree<BodyTree<Word>>, Stop>
-        requires nests { NestsBody self.now.room (F.pre self.now.body) (F.post self.now.body) }
-        requires room { length reader.old ≤ self.now.room }
-        ensures reads { Reads (reads n.arm reader.old) result reader.new }
-        ensures shorter { OnOk result (length reader.new < length reader.old) }
-    {
-        reader.expect(Terminal::Bar)?;
-        let pattern = reader.pattern()?;
-        reader.expect(Terminal::Arrow)?;
-        let body = self.nested(reader)?;
-        let Pattern { at, con, names } = pattern;
-        Ok(ArmTree {
-            at,
-            con,
-            names,
-            body,
-        })
-    }
-
-    #[tactic(auto, using(fst_syntax::proofs::Opens::opens))]
-    pub fn block(&self, reader: &mut Reader<'_>) -> Result<BodyTree<Word>, Stop>
-        requires nests { NestsBody self.now.room (F.pre self.now.body) (F.post self.now.body) }
-        requires room { length reader.old ≤ self.now.room }
-        ensures reads { Reads (reads n.block reader.old) result reader.new }
-        ensures shorter { OnOk result (length reader.new < length reader.old) }
-    {
-        reader.expect(Terminal::LeftBrace)?;
-        let body = self.nested(reader)?;
-        let (body, _) = both(body, reader.expect(Terminal::RightBrace))?;
-        Ok(body)
-    }
-
     /// A block on the heap.
+    #[tactic(auto, using(fst_syntax::proofs::Opens::opens))]
     fn boxed_block(&self, reader: &mut Reader<'_>) -> Result<Box<BodyTree<Word>>, Stop>
-        requires nests { NestsBody self.now.room (F.pre self.now.body) (F.post self.now.body) }
+        requires nests { Nests (reads n.body) self.now.room (F.pre self.now.text) (F.post self.now.text) }
         requires room { length reader.old ≤ self.now.room }
         ensures reads { Reads (reads n.block reader.old) result reader.new }
         ensures shorter { OnOk result (length reader.new < length reader.old) }
     {
-        let body = self.block(reader)?;
+        let body = self.braced(reader)?;
         Ok(Box::new(reader.alloc(), body)?)
     }
 
     #[tactic(auto, using(fst_syntax::proofs::Opens::opens))]
-    fn binding(&self, reader: &mut Reader<'_>) -> Result<Binding<PartTree<Word>>, Stop>
-        requires nests { NestsBody self.now.room (F.pre self.now.body) (F.post self.now.body) }
-        requires room { length reader.old ≤ self.now.room }
-        ensures reads { Reads (reads n.binding reader.old) result reader.new }
-        ensures shorter { OnOk result (length reader.new < length reader.old) }
-    {
-        let name = reader.binder()?;
-        let sort = reader.annotation()?;
-        let (sort, part) = both(sort, self.bound_part(reader))?;
-        Ok(Binding { name, sort, part })
-    }
-
-    fn bound_part(&self, reader: &mut Reader<'_>) -> Result<PartTree<Word>, Stop>
-        requires nests { NestsBody self.now.room (F.pre self.now.body) (F.post self.now.body) }
-        requires room { length reader.old ≤ self.now.room }
-        ensures reads { Reads (run tails.bound_part reader.old) result reader.new }
-        ensures shorter { OnOk result (length reader.new < length reader.old) }
-    {
-        reader.expect(Terminal::Equal)?;
-        let part = self.part(reader)?;
-        let (part, _) = both(part, reader.expect(Terminal::In))?;
-        Ok(part)
-    }
-
-    #[tactic(auto, using(fst_syntax::proofs::Opens::opens))]
-    fn part(&self, reader: &mut Reader<'_>) -> Result<PartTree<Word>, Stop>
-        requires nests { NestsBody self.now.room (F.pre self.now.body) (F.post self.now.body) }
+    fn body_part(&self, reader: &mut Reader<'_>) -> Result<PartTree<Word>, Stop>
+        requires nests { Nests (reads n.body) self.now.room (F.pre self.now.text) (F.post self.now.text) }
         requires room { length reader.old ≤ self.now.room }
         ensures reads { Reads (reads n.part reader.old) result reader.new }
         ensures shorter { OnOk result (length reader.new < length reader.old) }
@@ -319,7 +176,7 @@ impl<F: Fn(&mut Reader<'_>, usize) -> Result<BodyTree<Word>, Stop>> Bodies<F> {
 
     #[tactic(auto, using(fst_syntax::proofs::Opens::opens))]
     fn block_part(&self, reader: &mut Reader<'_>) -> Result<PartTree<Word>, Stop>
-        requires nests { NestsBody self.now.room (F.pre self.now.body) (F.post self.now.body) }
+        requires nests { Nests (reads n.body) self.now.room (F.pre self.now.text) (F.post self.now.text) }
         requires room { length reader.old ≤ self.now.room }
         ensures reads { Reads (reads n.block_part reader.old) result reader.new }
         ensures shorter { OnOk result (length reader.new < length reader.old) }
@@ -335,7 +192,7 @@ impl<F: Fn(&mut Reader<'_>, usize) -> Result<BodyTree<Word>, Stop>> Bodies<F> {
 
     #[tactic(auto, using(fst_syntax::proofs::Opens::opens))]
     fn reify(&self, reader: &mut Reader<'_>) -> Result<PartTree<Word>, Stop>
-        requires nests { NestsBody self.now.room (F.pre self.now.body) (F.post self.now.body) }
+        requires nests { Nests (reads n.body) self.now.room (F.pre self.now.text) (F.post self.now.text) }
         requires room { length reader.old ≤ self.now.room }
         ensures reads { Reads (reads n.reify reader.old) result reader.new }
         ensures shorter { OnOk result (length reader.new < length reader.old) }
@@ -353,7 +210,7 @@ impl<F: Fn(&mut Reader<'_>, usize) -> Result<BodyTree<Word>, Stop>> Bodies<F> {
 
     #[tactic(auto, using(fst_syntax::proofs::Opens::opens))]
     fn reflect(&self, reader: &mut Reader<'_>) -> Result<PartTree<Word>, Stop>
-        requires nests { NestsBody self.now.room (F.pre self.now.body) (F.post self.now.body) }
+        requires nests { Nests (reads n.body) self.now.room (F.pre self.now.text) (F.post self.now.text) }
         requires room { length reader.old ≤ self.now.room }
         ensures reads { Reads (reads n.reflect reader.old) result reader.new }
         ensures shorter { OnOk result (length reader.new < length reader.old) }
@@ -369,7 +226,7 @@ impl<F: Fn(&mut Reader<'_>, usize) -> Result<BodyTree<Word>, Stop>> Bodies<F> {
     }
 
     fn reflected(&self, reader: &mut Reader<'_>) -> Result<(Word, Box<BodyTree<Word>>), Stop>
-        requires nests { NestsBody self.now.room (F.pre self.now.body) (F.post self.now.body) }
+        requires nests { Nests (reads n.body) self.now.room (F.pre self.now.text) (F.post self.now.text) }
         requires room { length reader.old ≤ self.now.room }
         ensures reads { Reads (run tails.reflected reader.old) result reader.new }
         ensures shorter { OnOk result (length reader.new < length reader.old) }
@@ -383,14 +240,31 @@ impl<F: Fn(&mut Reader<'_>, usize) -> Result<BodyTree<Word>, Stop>> Bodies<F> {
 }
 
 /// A body, with more room than tokens.
+#[cycle(body)]
 pub fn body(reader: &mut Reader<'_>, room: usize) -> Result<BodyTree<Word>, Stop>
     requires { length reader.old < room }
     ensures reads { Reads (reads n.body reader.old) result reader.new }
     ensures shorter { OnOk result (length reader.new < length reader.old) }
 {
-    Bodies {
+    Texts {
         room: room - 1,
-        body,
+        text: body,
+        part,
     }
-    .whole(reader)
+    .body(reader)
+}
+
+/// A part of a body, with more room than tokens.
+#[cycle(body)]
+pub fn part(reader: &mut Reader<'_>, room: usize) -> Result<PartTree<Word>, Stop>
+    requires { length reader.old < room }
+    ensures reads { Reads (reads n.part reader.old) result reader.new }
+    ensures shorter { OnOk result (length reader.new < length reader.old) }
+{
+    Texts {
+        room: room - 1,
+        text: body,
+        part,
+    }
+    .body_part(reader)
 }

@@ -7,9 +7,10 @@ ghost use Rattle.fst_syntax.specs.Productions as n;
 ghost use Rattle.fst_syntax.specs.Tables.{firsts};
 ghost use Rattle.fst_syntax.specs.Reading.{Reads, reads};
 
-use crate::bodies::{Bodies, body};
-use crate::definitions::dm;
+use crate::bodies::{body, part};
+use crate::definitions::{dm, dm_part};
 use crate::heads::head;
+use crate::texts::Texts;
 use fst_base::{Seq, both, three, two};
 use fst_syntax::{Abstraction, Signature, Stop, Terminal};
 use fst_term_reader::Reader;
@@ -20,10 +21,12 @@ fn dm_block(reader: &mut Reader<'_>) -> Result<DmTree<Word>, Stop>
     ensures reads { Reads (reads n.dm_block reader.old) result reader.new }
     ensures shorter { OnOk result (length reader.new < length reader.old) }
 {
-    reader.expect(Terminal::LeftBrace)?;
-    let room = reader.room();
-    let text = dm(reader, room)?;
-    let (text, _) = both(text, reader.expect(Terminal::RightBrace))?;
+    let texts = Texts {
+        room: reader.room(),
+        text: dm,
+        part: dm_part,
+    };
+    let text = texts.braced(reader)?;
     Ok(text)
 }
 
@@ -32,11 +35,12 @@ fn block(reader: &mut Reader<'_>) -> Result<BodyTree<Word>, Stop>
     ensures reads { Reads (reads n.block reader.old) result reader.new }
     ensures shorter { OnOk result (length reader.new < length reader.old) }
 {
-    let bodies = Bodies {
+    let bodies = Texts {
         room: reader.room(),
-        body,
+        text: body,
+        part,
     };
-    let block = bodies.block(reader)?;
+    let block = bodies.braced(reader)?;
     Ok(block)
 }
 

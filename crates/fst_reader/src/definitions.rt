@@ -1,51 +1,30 @@
-//! The texts of returns, binds and lifts. Their functions take the reader of a nested text as a parameter, so that each is
-//! proved by itself.
+//! The texts of returns, binds and lifts.
 
-ghost use Rattle.std.specs.Prelude.{◌≡◌, ◌<◌, ◌≤◌, [], ◌∷◌, length, OnOk};
+ghost use Rattle.std.specs.Prelude.{◌≡◌, ◌<◌, ◌≤◌, length, OnOk};
 ghost use Rattle.fst_syntax.specs.Productions as n;
-ghost use Rattle.fst_syntax.specs.Reading.{Reads, reads, run, behind};
-ghost use Rattle.fst_syntax.specs.Tails as tails;
-ghost use Rattle.fst_syntax.specs.Nests.{NestsDm};
+ghost use Rattle.fst_syntax.specs.Reading.{Reads, reads};
+ghost use Rattle.fst_reader.specs.Texts.{Nests};
+ghost use Rattle.fst_reader.specs.Kinds.{definitions};
 
 use crate::parts::dm_named_part;
-use fst_base::{Box, Seq, both};
-use fst_syntax::{Binding, Pattern, Stop, Terminal};
+use crate::texts::{Text, Texts};
+use fst_base::Box;
+use fst_syntax::{Binding, Stop, Terminal};
 use fst_term_reader::Reader;
-use fst_trees::{ArmTree, DmTree, Word};
+use fst_trees::{DmTree, Word};
 
-/// The readers of the parts of a definition's text.
-#[derive(Clone, Copy)]
-pub struct Definitions<F> {
-    /// More than the tokens that are left at a nested text.
-    pub room: usize,
-    /// The reader of a nested text.
-    pub text: F,
+impl Text<Box<DmTree<Word>>> for DmTree<Word> {
+    ghost kind = { definitions };
 }
 
-impl<F: Fn(&mut Reader<'_>, usize) -> Result<DmTree<Word>, Stop>> Definitions<F> {
-    fn nested(&self, reader: &mut Reader<'_>) -> Result<DmTree<Word>, Stop>
-        requires nests { NestsDm self.now.room (F.pre self.now.text) (F.post self.now.text) }
-        requires room { length reader.old < self.now.room }
-        ensures reads { Reads (reads n.dm reader.old) result reader.new }
-        ensures shorter { OnOk result (length reader.new < length reader.old) }
-    {
-        (self.text)(reader, self.room)
-    }
-
-    /// A nested text on the heap.
-    fn boxed(&self, reader: &mut Reader<'_>) -> Result<Box<DmTree<Word>>, Stop>
-        requires nests { NestsDm self.now.room (F.pre self.now.text) (F.post self.now.text) }
-        requires room { length reader.old < self.now.room }
-        ensures reads { Reads (reads n.dm reader.old) result reader.new }
-        ensures shorter { OnOk result (length reader.new < length reader.old) }
-    {
-        let text = self.nested(reader)?;
-        Ok(Box::new(reader.alloc(), text)?)
-    }
-
+impl<
+    F: Fn(&mut Reader<'_>, usize) -> Result<DmTree<Word>, Stop>,
+    G: Fn(&mut Reader<'_>, usize) -> Result<Box<DmTree<Word>>, Stop>,
+> Texts<F, G> {
     #[tactic(auto, using(fst_syntax::proofs::Opens::opens))]
-    pub fn whole(&self, reader: &mut Reader<'_>) -> Result<DmTree<Word>, Stop>
-        requires nests { NestsDm self.now.room (F.pre self.now.text) (F.post self.now.text) }
+    pub fn dm(&self, reader: &mut Reader<'_>) -> Result<DmTree<Word>, Stop>
+        requires nests { Nests (reads n.dm) self.now.room (F.pre self.now.text) (F.post self.now.text) }
+        requires parts { Nests (reads n.dmpart) self.now.room (G.pre self.now.part) (G.post self.now.part) }
         requires room { length reader.old ≤ self.now.room }
         ensures reads { Reads (reads n.dm reader.old) result reader.new }
         ensures shorter { OnOk result (length reader.new < length reader.old) }
@@ -56,15 +35,15 @@ impl<F: Fn(&mut Reader<'_>, usize) -> Result<DmTree<Word>, Stop>> Definitions<F>
                 Ok(text)
             }
             Terminal::If => {
-                let text = self.branching(reader)?;
+                let text = self.dm_branching(reader)?;
                 Ok(text)
             }
             Terminal::Match => {
-                let text = self.matching(reader)?;
+                let text = self.dm_matching(reader)?;
                 Ok(text)
             }
             _ => {
-                let text = self.part(reader)?;
+                let text = self.dm_part(reader)?;
                 Ok(text)
             }
         }
@@ -72,163 +51,42 @@ impl<F: Fn(&mut Reader<'_>, usize) -> Result<DmTree<Word>, Stop>> Definitions<F>
 
     #[tactic(auto, using(fst_syntax::proofs::Opens::opens))]
     fn dm_let(&self, reader: &mut Reader<'_>) -> Result<DmTree<Word>, Stop>
-        requires nests { NestsDm self.now.room (F.pre self.now.text) (F.post self.now.text) }
+        requires nests { Nests (reads n.dm) self.now.room (F.pre self.now.text) (F.post self.now.text) }
+        requires parts { Nests (reads n.dmpart) self.now.room (G.pre self.now.part) (G.post self.now.part) }
         requires room { length reader.old ≤ self.now.room }
         ensures reads { Reads (reads n.dm_let reader.old) result reader.new }
         ensures shorter { OnOk result (length reader.new < length reader.old) }
     {
-        reader.expect(Terminal::Let)?;
-        let binding = self.binding(reader)?;
-        let (binding, rest) = both(binding, self.boxed(reader))?;
+        let (binding, rest) = self.let_in(reader)?;
         let Binding { name, sort, part } = binding;
         Ok(DmTree::Let(name, sort, part, rest))
     }
 
     #[tactic(auto, using(fst_syntax::proofs::Opens::opens))]
-    fn branching(&self, reader: &mut Reader<'_>) -> Result<DmTree<Word>, Stop>
-        requires nests { NestsDm self.now.room (F.pre self.now.text) (F.post self.now.text) }
+    fn dm_branching(&self, reader: &mut Reader<'_>) -> Result<DmTree<Word>, Stop>
+        requires nests { Nests (reads n.dm) self.now.room (F.pre self.now.text) (F.post self.now.text) }
         requires room { length reader.old ≤ self.now.room }
         ensures reads { Reads (reads n.dm_branching reader.old) result reader.new }
         ensures shorter { OnOk result (length reader.new < length reader.old) }
     {
-        reader.expect(Terminal::If)?;
-        let condition = reader.term()?;
-        let (condition, (yes, no)) = both(condition, self.two_texts(reader))?;
+        let (condition, (yes, no)) = self.branches(reader)?;
         Ok(DmTree::If(condition, yes, no))
     }
 
-    fn two_texts(
-        &self,
-        reader: &mut Reader<'_>,
-    ) -> Result<(Box<DmTree<Word>>, Box<DmTree<Word>>), Stop>
-        requires nests { NestsDm self.now.room (F.pre self.now.text) (F.post self.now.text) }
-        requires room { length reader.old ≤ self.now.room }
-        ensures reads { Reads (run tails.two_texts reader.old) result reader.new }
-        ensures shorter { OnOk result (length reader.new < length reader.old) }
-    {
-        reader.expect(Terminal::Then)?;
-        let yes = self.boxed(reader)?;
-        reader.expect(Terminal::Else)?;
-        let no = self.boxed(reader)?;
-        Ok((yes, no))
-    }
-
     #[tactic(auto, using(fst_syntax::proofs::Opens::opens))]
-    fn matching(&self, reader: &mut Reader<'_>) -> Result<DmTree<Word>, Stop>
-        requires nests { NestsDm self.now.room (F.pre self.now.text) (F.post self.now.text) }
+    fn dm_matching(&self, reader: &mut Reader<'_>) -> Result<DmTree<Word>, Stop>
+        requires nests { Nests (reads n.dm) self.now.room (F.pre self.now.text) (F.post self.now.text) }
         requires room { length reader.old ≤ self.now.room }
         ensures reads { Reads (reads n.dm_matching reader.old) result reader.new }
         ensures shorter { OnOk result (length reader.new < length reader.old) }
     {
-        let at = reader.expect(Terminal::Match)?;
-        let scrutinee = reader.term()?;
-        let (scrutinee, arms) = both(scrutinee, self.with_arms(reader))?;
+        let (at, (scrutinee, arms)) = self.cases(reader)?;
         Ok(DmTree::Match(scrutinee, at, arms))
     }
 
-    fn with_arms(&self, reader: &mut Reader<'_>) -> Result<Seq<ArmTree<DmTree<Word>>>, Stop>
-        requires nests { NestsDm self.now.room (F.pre self.now.text) (F.post self.now.text) }
-        requires room { length reader.old ≤ self.now.room }
-        ensures reads { Reads (run tails.with_dm_arms reader.old) result reader.new }
-        ensures shorter { OnOk result (length reader.new < length reader.old) }
-    {
-        reader.expect(Terminal::With)?;
-        let arms = self.arms(reader)?;
-        reader.expect(Terminal::EndWord)?;
-        Ok(arms)
-    }
-
-    #[tactic(auto, using(fst_syntax::proofs::Runs::dm_arms_opens))]
-    fn arms(&self, reader: &mut Reader<'_>) -> Result<Seq<ArmTree<DmTree<Word>>>, Stop>
-        requires nests { NestsDm self.now.room (F.pre self.now.text) (F.post self.now.text) }
-        requires room { length reader.old ≤ self.now.room }
-        ensures reads { Reads (reads n.dm_arms reader.old) result reader.new }
-        ensures shorter { OnOk result (length reader.new < length reader.old) }
-    {
-        let first = self.arm(reader)?;
-        let arms = self.arms_more(reader, first)?;
-        Ok(arms)
-    }
-
-    /// The arms behind a first one, with that one.
-    fn arms_more(
-        &self,
-        reader: &mut Reader<'_>,
-        first: ArmTree<DmTree<Word>>,
-    ) -> Result<Seq<ArmTree<DmTree<Word>>>, Stop>
-        requires nests { NestsDm self.now.room (F.pre self.now.text) (F.post self.now.text) }
-        requires room { length reader.old ≤ self.now.room }
-        ensures reads { Reads (behind (first ∷ []) (reads n.dm_arms_more reader.old)) result reader.new }
-        ensures no_longer { OnOk result (length reader.new ≤ length reader.old) }
-    {
-        let mut arms = Seq::new(reader.alloc());
-        arms.push(first)?;
-        'arms: while reader.at(Terminal::Bar) {
-            let arm = self.arm(reader)?;
-            arms.push(arm)?;
-        }
-        Ok(arms)
-    }
-
     #[tactic(auto, using(fst_syntax::proofs::Opens::opens))]
-    fn arm(&self, reader: &mut Reader<'_>) -> Result<ArmTree<DmTree<Word>>, Stop>
-        requires nests { NestsDm self.now.room (F.pre self.now.text) (F.post self.now.text) }
-        requires room { length reader.old ≤ self.now.room }
-        ensures reads { Reads (reads n.dm_arm reader.old) result reader.new }
-        ensures shorter { OnOk result (length reader.new < length reader.old) }
-    {
-        reader.expect(Terminal::Bar)?;
-        let pattern = reader.pattern()?;
-        reader.expect(Terminal::Arrow)?;
-        let body = self.nested(reader)?;
-        let Pattern { at, con, names } = pattern;
-        Ok(ArmTree {
-            at,
-            con,
-            names,
-            body,
-        })
-    }
-
-    #[tactic(auto, using(fst_syntax::proofs::Opens::opens))]
-    fn binding(&self, reader: &mut Reader<'_>) -> Result<Binding<Box<DmTree<Word>>>, Stop>
-        requires nests { NestsDm self.now.room (F.pre self.now.text) (F.post self.now.text) }
-        requires room { length reader.old ≤ self.now.room }
-        ensures reads { Reads (reads n.dm_binding reader.old) result reader.new }
-        ensures shorter { OnOk result (length reader.new < length reader.old) }
-    {
-        let name = reader.binder()?;
-        let sort = reader.annotation()?;
-        let (sort, part) = both(sort, self.bound_text(reader))?;
-        Ok(Binding { name, sort, part })
-    }
-
-    fn bound_text(&self, reader: &mut Reader<'_>) -> Result<Box<DmTree<Word>>, Stop>
-        requires nests { NestsDm self.now.room (F.pre self.now.text) (F.post self.now.text) }
-        requires room { length reader.old ≤ self.now.room }
-        ensures reads { Reads (run tails.bound_text reader.old) result reader.new }
-        ensures shorter { OnOk result (length reader.new < length reader.old) }
-    {
-        reader.expect(Terminal::Equal)?;
-        let part = self.boxed_part(reader)?;
-        reader.expect(Terminal::In)?;
-        Ok(part)
-    }
-
-    /// A part on the heap.
-    fn boxed_part(&self, reader: &mut Reader<'_>) -> Result<Box<DmTree<Word>>, Stop>
-        requires nests { NestsDm self.now.room (F.pre self.now.text) (F.post self.now.text) }
-        requires room { length reader.old ≤ self.now.room }
-        ensures reads { Reads (reads n.dmpart reader.old) result reader.new }
-        ensures shorter { OnOk result (length reader.new < length reader.old) }
-    {
-        let part = self.part(reader)?;
-        Ok(Box::new(reader.alloc(), part)?)
-    }
-
-    #[tactic(auto, using(fst_syntax::proofs::Opens::opens))]
-    fn part(&self, reader: &mut Reader<'_>) -> Result<DmTree<Word>, Stop>
-        requires nests { NestsDm self.now.room (F.pre self.now.text) (F.post self.now.text) }
+    fn dm_part(&self, reader: &mut Reader<'_>) -> Result<DmTree<Word>, Stop>
+        requires nests { Nests (reads n.dm) self.now.room (F.pre self.now.text) (F.post self.now.text) }
         requires room { length reader.old ≤ self.now.room }
         ensures reads { Reads (reads n.dmpart reader.old) result reader.new }
         ensures shorter { OnOk result (length reader.new < length reader.old) }
@@ -253,14 +111,32 @@ impl<F: Fn(&mut Reader<'_>, usize) -> Result<DmTree<Word>, Stop>> Definitions<F>
 }
 
 /// A definition's text, with more room than tokens.
+#[cycle(dm)]
 pub fn dm(reader: &mut Reader<'_>, room: usize) -> Result<DmTree<Word>, Stop>
     requires { length reader.old < room }
     ensures reads { Reads (reads n.dm reader.old) result reader.new }
     ensures shorter { OnOk result (length reader.new < length reader.old) }
 {
-    Definitions {
+    Texts {
         room: room - 1,
         text: dm,
+        part: dm_part,
     }
-    .whole(reader)
+    .dm(reader)
+}
+
+/// A part of a definition's text on the heap, with more room than tokens.
+#[cycle(dm)]
+pub fn dm_part(reader: &mut Reader<'_>, room: usize) -> Result<Box<DmTree<Word>>, Stop>
+    requires { length reader.old < room }
+    ensures reads { Reads (reads n.dmpart reader.old) result reader.new }
+    ensures shorter { OnOk result (length reader.new < length reader.old) }
+{
+    let texts = Texts {
+        room: room - 1,
+        text: dm,
+        part: dm_part,
+    };
+    let part = texts.dm_part(reader)?;
+    Ok(Box::new(reader.alloc(), part)?)
 }

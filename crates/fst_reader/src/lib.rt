@@ -8,6 +8,7 @@ mod heads;
 mod laws;
 mod limits;
 mod parts;
+mod texts;
 mod whole;
 
 pub use fst_trees::{

@@ -42,36 +42,58 @@ module _ {A : Type 0} where
       then (◌>>=◌ {A = A × (Tree × (Tree → Tree))} {B = Tree → Tree} (operator >>= (λ p us. ◌>>=◌ {A = Tree × (Tree → Tree)} {B = A × (Tree × (Tree → Tree))} (operand us >>= (λ b vs. more vs >>= (λ g ks. Ok ((b, g), ks)))) (λ q ks. Ok ((p, q), ks)))) (λ p ks. Ok ((λ a. p.1.1 (make p.0 a p.1.0)), ks)))
       else (Ok ((λ a. a), ms))
 
+  -- an operator and its right operand
+  abbrev pub operation : Outcome Token A → (List Token → Outcome Token Tree) → Outcome Token (A × Tree)
+  operation operator operand = operator >>= λ p us. operand us >>= λ b vs. Ok ((p, b), vs)
+
   -- the facts that a loop over a chain's tail keeps to
   pub record Chained (make : A → Tree → Tree → Tree) (operand : List Token → Outcome Token Tree) (more : List Token → Outcome Token (Tree → Tree)) (test : Bool) (operator : Outcome Token A) (ms : List Token) : Type 0 where
     pub stop : (a : Tree) → test ≡ false → applied a (more ms) ≡ Ok (a, ms)
-    pub step : (a b : Tree) (p : A) (us vs : List Token) → test ≡ true → operator ≡ Ok (p, us) → operand us ≡ Ok (b, vs) → applied a (more ms) ≡ applied (make p a b) (more vs)
-    pub no_operator : (a : Tree) (e : Stop) (us : List Token) → test ≡ true → Reads operator (Err e) us → Reads (applied a (more ms)) (Err e) us
-    pub no_operand : (a : Tree) (p : A) (e : Stop) (us vs : List Token) → test ≡ true → operator ≡ Ok (p, us) → Reads (operand us) (Err e) vs → Reads (applied a (more ms)) (Err e) vs
+    pub step : (a b : Tree) (p : A) (vs : List Token) → test ≡ true → operation operator operand ≡ Ok ((p, b), vs) → applied a (more ms) ≡ applied (make p a b) (more vs)
+    pub no_step : (a : Tree) (e : Stop) (us : List Token) → test ≡ true → Reads (operation operator operand) (Err e) us → Reads (applied a (more ms)) (Err e) us
 
-  module _ (make : A → Tree → Tree → Tree) (operand : List Token → Outcome Token Tree) (more : List Token → Outcome Token (Tree → Tree)) (test : Bool) (operator : Outcome Token A) (ms : List Token)
-      (opened : more ms ≡ chain make test operator operand more ms) where
-    one_more : (a b : Tree) (p : A) (o : Outcome Token (Tree → Tree))
-        → ◌≡◌ {A = Outcome Token Tree} (applied a (◌>>=◌ {A = A × (Tree × (Tree → Tree))} {B = Tree → Tree} (◌>>=◌ {A = Tree × (Tree → Tree)} {B = A × (Tree × (Tree → Tree))} (o >>= λ g ks. Ok ((b, g), ks)) (λ q ks. Ok ((p, q), ks))) (λ p ks. Ok ((λ a. p.1.1 (make p.0 a p.1.0)), ks)))) (applied (make p a b) o)
+  module _ (make : A → Tree → Tree → Tree) (operand : List Token → Outcome Token Tree) (more : List Token → Outcome Token (Tree → Tree)) where
+    -- the tail behind an operator and its right operand
+    abbrev behind_step : A × Tree → Outcome Token (Tree → Tree) → Outcome Token (Tree → Tree)
+    behind_step q o = o >>= λ g ks. Ok ((λ a. g (make q.0 a q.1)), ks)
+
+    behind_operand : (p : A) (b : Tree) (o : Outcome Token (Tree → Tree))
+        → ◌≡◌ {A = Outcome Token (Tree → Tree)} (◌>>=◌ {A = A × (Tree × (Tree → Tree))} {B = Tree → Tree} (◌>>=◌ {A = Tree × (Tree → Tree)} {B = A × (Tree × (Tree → Tree))} (o >>= λ g ks. Ok ((b, g), ks)) (λ q ks. Ok ((p, q), ks))) (λ p ks. Ok ((λ a. p.1.1 (make p.0 a p.1.0)), ks))) (behind_step (p, b) o)
+    behind_operand p b (Ok q) = refl
+    behind_operand p b (Err ks) = refl
+
+    behind_operator : (p : A) (o : Outcome Token Tree)
+        → ◌≡◌ {A = Outcome Token (Tree → Tree)} (◌>>=◌ {A = A × (Tree × (Tree → Tree))} {B = Tree → Tree} (◌>>=◌ {A = Tree × (Tree → Tree)} {B = A × (Tree × (Tree → Tree))} (o >>= (λ b vs. more vs >>= (λ g ks. Ok ((b, g), ks)))) (λ q ks. Ok ((p, q), ks))) (λ p ks. Ok ((λ a. p.1.1 (make p.0 a p.1.0)), ks)))
+        (◌>>=◌ {A = A × Tree} {B = Tree → Tree} (o >>= λ b vs. Ok ((p, b), vs)) (λ q vs. behind_step q (more vs)))
+    behind_operator p (Ok q) = behind_operand p q.0 (more q.1)
+    behind_operator p (Err ks) = refl
+
+    regrouped : (o : Outcome Token A)
+        → ◌≡◌ {A = Outcome Token (Tree → Tree)} (◌>>=◌ {A = A × (Tree × (Tree → Tree))} {B = Tree → Tree} (o >>= (λ p us. ◌>>=◌ {A = Tree × (Tree → Tree)} {B = A × (Tree × (Tree → Tree))} (operand us >>= (λ b vs. more vs >>= (λ g ks. Ok ((b, g), ks)))) (λ q ks. Ok ((p, q), ks)))) (λ p ks. Ok ((λ a. p.1.1 (make p.0 a p.1.0)), ks)))
+        (◌>>=◌ {A = A × Tree} {B = Tree → Tree} (operation o operand) (λ q vs. behind_step q (more vs)))
+    regrouped (Ok p) = behind_operator p.0 (operand p.1)
+    regrouped (Err ks) = refl
+
+    one_more : (a b : Tree) (p : A) (o : Outcome Token (Tree → Tree)) → applied a (behind_step (p, b) o) ≡ applied (make p a b) o
     one_more a b p (Ok q) = refl
     one_more a b p (Err ks) = refl
 
-    stop : (a : Tree) → test ≡ false → applied a (more ms) ≡ Ok (a, ms)
-    stop a e = ap (applied a) opened ∙ rw e refl
+    module _ (test : Bool) (operator : Outcome Token A) (ms : List Token) (opened : more ms ≡ chain make test operator operand more ms) where
+      begun : test ≡ true → more ms ≡ ◌>>=◌ {A = A × Tree} {B = Tree → Tree} (operation operator operand) (λ q vs. behind_step q (more vs))
+      begun e = opened ∙ rw e (regrouped operator)
 
-    step : (a b : Tree) (p : A) (us vs : List Token) → test ≡ true → operator ≡ Ok (p, us) → operand us ≡ Ok (b, vs) → applied a (more ms) ≡ applied (make p a b) (more vs)
-    step a b p us vs e h g = ap (applied a) opened ∙ rw (e, h, g) (one_more a b p (more vs))
+      stop : (a : Tree) → test ≡ false → applied a (more ms) ≡ Ok (a, ms)
+      stop a e = ap (applied a) opened ∙ rw e refl
 
-    no_operator : (a : Tree) (e : Stop) (us : List Token) → test ≡ true → Reads operator (Err e) us → Reads (applied a (more ms)) (Err e) us
-    no_operator a Syntax us e h = ap (applied a) opened ∙ rw (e, h) refl
-    no_operator a NoMemory us e h = tt
+      step : (a b : Tree) (p : A) (vs : List Token) → test ≡ true → operation operator operand ≡ Ok ((p, b), vs) → applied a (more ms) ≡ applied (make p a b) (more vs)
+      step a b p vs e h = ap (applied a) (begun e) ∙ rw h (one_more a b p (more vs))
 
-    no_operand : (a : Tree) (p : A) (e : Stop) (us vs : List Token) → test ≡ true → operator ≡ Ok (p, us) → Reads (operand us) (Err e) vs → Reads (applied a (more ms)) (Err e) vs
-    no_operand a p Syntax us vs e h g = ap (applied a) opened ∙ rw (e, h, g) refl
-    no_operand a p NoMemory us vs e h g = tt
+      no_step : (a : Tree) (e : Stop) (us : List Token) → test ≡ true → Reads (operation operator operand) (Err e) us → Reads (applied a (more ms)) (Err e) us
+      no_step a Syntax us e h = ap (applied a) (begun e) ∙ rw h refl
+      no_step a NoMemory us e h = tt
 
-    chained : Chained make operand more test operator ms
-    chained = record { stop = stop; step = step; no_operator = no_operator; no_operand = no_operand }
+      chained : Chained make operand more test operator ms
+      chained = record { stop = stop; step = step; no_step = no_step }
 
 pub disj_chained : (f : Bool) (ms : List Token) → Chained t.disjunction (reads (n.conj f)) (reads (n.disj_more f)) (has alphabet (k.BarBar ∷ []) (next alphabet ms)) (takes k.BarBar ms) ms
 disj_chained f ms = chained t.disjunction (reads (n.conj f)) (reads (n.disj_more f)) (has alphabet (k.BarBar ∷ []) (next alphabet ms)) (takes k.BarBar ms) ms (opens (n.disj_more f) ms)

@@ -1,5 +1,5 @@
 -- Lists of a nonterminal's trees, as the loops that read them see them.
-use Rattle.std.proofs.Common.{◌≡◌, Bool, true, false, if◌then◌else◌, List, [], ◌∷◌, ◌++◌, append-nil, append_assoc, refl, sym, ◌∙◌, ap, Ok, Err}
+use Rattle.std.proofs.Common.{◌≡◌, Bool, true, false, List, [], ◌∷◌, ◌++◌, append-nil, append_assoc, refl, sym, ◌∙◌, ap, Ok, Err}
 use Rattle.fst_grammar.specs.Alphabet.{has, next}
 use Rattle.fst_grammar.specs.Reading.{Outcome, ◌>>=◌}
 use Rattle.fst_syntax.specs.declared.stop.Stop.{Stop}
@@ -7,7 +7,7 @@ use Rattle.fst_syntax.specs.declared.stop.Stop.TheVariants.{Syntax, NoMemory}
 use Rattle.fst_syntax.specs.Tokens.{Token, alphabet}
 use Rattle.fst_syntax.specs.Productions as n
 use Rattle.fst_syntax.specs.Tables.{firsts}
-use Rattle.fst_syntax.specs.Reading.{Reads, reads, behind}
+use Rattle.fst_syntax.specs.Reading.{Reads, reads, behind, listing}
 use Rattle.fst_syntax.proofs.Opens.{opens}
 
 pub all_read : {A : Type 0} (o : Outcome Token (List A)) → behind [] o ≡ o
@@ -29,12 +29,6 @@ more_read : {A : Type 0} (xs : List A) (a : A) (o : Outcome Token (List A))
 more_read xs a (Err ks) = refl
 more_read xs a (Ok p) = ap (λ ys. Ok (ys, p.1)) (sym (append_assoc xs (a ∷ []) p.0))
 
--- what a list gives: an item and the list again where the test holds, else nothing
-abbrev pub listing : {A : Type 0} → Bool → Outcome Token A → (List Token → Outcome Token (List A)) → List Token → Outcome Token (List A)
-listing {A} test item list ts = if test
-    then (◌>>=◌ {A = A × List A} {B = List A} (item >>= (λ a us. list us >>= (λ more ks. Ok ((a, more), ks)))) (λ p ks. Ok (p.0 ∷ p.1, ks)))
-    else (Ok ([], ts))
-
 -- the facts that a loop over a list keeps to
 pub record Listed {A : Type 0} (test : Bool) (item : Outcome Token A) (list : List Token → Outcome Token (List A)) (ts : List Token) : Type 0 where
   pub stop : (xs : List A) → test ≡ false → behind xs (list ts) ≡ Ok (xs, ts)
@@ -52,7 +46,7 @@ module _ {A : Type 0} (test : Bool) (item : Outcome Token A) (list : List Token 
   no_item xs Syntax us e h = ap (behind xs) opened ∙ rw (e, h) refl
   no_item xs NoMemory us e h = tt
 
-  listed : Listed test item list ts
+  pub listed : Listed test item list ts
   listed = record { stop = stop; step = step; no_item = no_item }
 
 abbrev pub comes : n.N → List Token → Bool

@@ -5,24 +5,10 @@ use Rattle.fst_syntax.specs.declared.stop.Stop.{Stop}
 use Rattle.fst_syntax.specs.Tokens.{Token}
 use Rattle.fst_syntax.specs.Trees.{Tree}
 use Rattle.fst_syntax.specs.Reading.{Reads, reads}
-use Rattle.fst_trees.specs.declared.word.Word.{Word}
-use Rattle.fst_trees.specs.declared.body.BodyTree.{BodyTree}
-use Rattle.fst_trees.specs.declared.definition.DmTree.{DmTree}
-use Rattle.fst_syntax.specs.Productions.{term, body, dm}
+use Rattle.fst_syntax.specs.Productions.{term}
 
 pub record Nests (formula : Bool) (room : ℕ) (pre : Bool → MutBor (List Token) → ℕ → Type 0)
     (post : Bool → MutBor (List Token) → ℕ → Result Tree Stop → MutBor (List Token) → Type 0) : Type 0 where
   pub callable : (old : MutBor (List Token)) → length old.now < room → pre formula old room
   pub reads : (old new : MutBor (List Token)) (r : Result Tree Stop) → post formula old room r new → Reads (reads (term formula) old.now) r new.now
   pub shorter : (old new : MutBor (List Token)) (r : Result Tree Stop) → post formula old room r new → OnOk r (length new.now < length old.now)
-
--- the same for a body, and for a definition's text
-pub record NestsBody (room : ℕ) (pre : MutBor (List Token) → ℕ → Type 0) (post : MutBor (List Token) → ℕ → Result (BodyTree Word) Stop → MutBor (List Token) → Type 0) : Type 0 where
-  pub callable : (old : MutBor (List Token)) → length old.now < room → pre old room
-  pub reads : (old new : MutBor (List Token)) (r : Result (BodyTree Word) Stop) → post old room r new → Reads (reads body old.now) r new.now
-  pub shorter : (old new : MutBor (List Token)) (r : Result (BodyTree Word) Stop) → post old room r new → OnOk r (length new.now < length old.now)
-
-pub record NestsDm (room : ℕ) (pre : MutBor (List Token) → ℕ → Type 0) (post : MutBor (List Token) → ℕ → Result (DmTree Word) Stop → MutBor (List Token) → Type 0) : Type 0 where
-  pub callable : (old : MutBor (List Token)) → length old.now < room → pre old room
-  pub reads : (old new : MutBor (List Token)) (r : Result (DmTree Word) Stop) → post old room r new → Reads (reads dm old.now) r new.now
-  pub shorter : (old new : MutBor (List Token)) (r : Result (DmTree Word) Stop) → post old room r new → OnOk r (length new.now < length old.now)

@@ -1,5 +1,5 @@
 -- Reading by the tables, and what a function that reads ensures.
-use Rattle.std.specs.Prelude.{◌≡◌, List, ◌++◌, Result, Ok, Err}
+use Rattle.std.specs.Prelude.{◌≡◌, Bool, if◌then◌else◌, List, [], ◌∷◌, ◌++◌, Result, Ok, Err}
 use Rattle.fst_base.specs.declared.place.Pos.{Pos}
 use Rattle.fst_syntax.specs.declared.stop.Stop.{Stop}
 use Rattle.fst_syntax.specs.declared.stop.Stop.TheVariants.{Syntax, NoMemory}
@@ -52,6 +52,12 @@ closed a at o = o >>= λ more ks. Ok (more a at, ks)
 -- a list's front with what is read behind it
 abbrev pub behind : {A : Type 0} → List A → Outcome Token (List A) → Outcome Token (List A)
 behind front o = o >>= λ more ks. Ok (front ++ more, ks)
+
+-- what a list gives: an item and the list again where the test holds, else nothing
+abbrev pub listing : {A : Type 0} → Bool → Outcome Token A → (List Token → Outcome Token (List A)) → List Token → Outcome Token (List A)
+listing {A} test item list ts = if test
+    then (◌>>=◌ {A = A × List A} {B = List A} (item >>= (λ a us. list us >>= (λ more ks. Ok ((a, more), ks)))) (λ p ks. Ok (p.0 ∷ p.1, ks)))
+    else (Ok ([], ts))
 
 -- The function gives the outcome, with these tokens left, unless memory fails.
 abbrev pub Reads : {A : Type 0} → Outcome Token A → Result A Stop → List Token → Type 0

@@ -10,7 +10,7 @@ ghost use Rattle.fst_syntax.specs.Nests.{Nests};
 use crate::make;
 use crate::reader::Reader;
 use crate::terms::Terms;
-use fst_base::{Op, Pos, both};
+use fst_base::{Box, Op, Pos, both};
 use fst_syntax::{Stop, Terminal};
 use fst_trees::{Form, Word};
 
@@ -143,12 +143,24 @@ impl<F: Fn(bool, &mut Reader<'_>, usize) -> Result<Form<Word>, Stop>> Terms<F> {
     {
         let at = reader.expect(Terminal::Let)?;
         let name = reader.binder()?;
+        let (name, (bound, rest)) = both(name, self.bound_in(reader))?;
+        Ok(make::let_in(at, name, bound, rest))
+    }
+
+    /// What a name is bound to, and the formula that it is seen in.
+    fn bound_in(&self, reader: &mut Reader<'_>) -> Result<(Box<Form<Word>>, Box<Form<Word>>), Stop>
+        requires nests { Nests self.now.formula self.now.room (F.pre self.now.term) (F.post self.now.term) }
+        requires room { length reader.old < self.now.room }
+        requires formula { IsTrue self.now.formula }
+        ensures reads { Reads (run tails.bound_in reader.old) result reader.new }
+        ensures shorter { OnOk result (length reader.new < length reader.old) }
+    {
         reader.expect(Terminal::Equal)?;
         let bound = self.boxed(reader)?;
         reader.expect(Terminal::In)?;
         let rest = self.boxed(reader)?;
         reader.expect(Terminal::RightParen)?;
-        Ok(make::let_in(at, name, bound, rest))
+        Ok((bound, rest))
     }
 
     #[tactic(auto, using(fst_syntax::proofs::Enclosed::enclosed_opens))]
@@ -184,12 +196,23 @@ impl<F: Fn(bool, &mut Reader<'_>, usize) -> Result<Form<Word>, Stop>> Terms<F> {
     {
         let at = reader.expect(Terminal::If)?;
         let condition = self.boxed(reader)?;
+        let (condition, (yes, no)) = both(condition, self.choices(reader))?;
+        Ok(make::if_then_else(at, condition, yes, no))
+    }
+
+    /// The two terms behind a condition.
+    fn choices(&self, reader: &mut Reader<'_>) -> Result<(Box<Form<Word>>, Box<Form<Word>>), Stop>
+        requires nests { Nests self.now.formula self.now.room (F.pre self.now.term) (F.post self.now.term) }
+        requires room { length reader.old < self.now.room }
+        ensures reads { Reads (run (tails.choices self.now.formula) reader.old) result reader.new }
+        ensures shorter { OnOk result (length reader.new < length reader.old) }
+    {
         reader.expect(Terminal::Then)?;
         let yes = self.boxed(reader)?;
         reader.expect(Terminal::Else)?;
         let no = self.boxed(reader)?;
         reader.expect(Terminal::RightParen)?;
-        Ok(make::if_then_else(at, condition, yes, no))
+        Ok((yes, no))
     }
 
     #[tactic(auto, using(fst_syntax::proofs::Opens::opens))]

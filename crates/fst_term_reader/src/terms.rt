@@ -3,14 +3,15 @@
 
 ghost use Rattle.std.specs.Prelude.{◌≡◌, ◌<◌, ◌≤◌, length, OnOk};
 ghost use Rattle.fst_syntax.specs.Productions as n;
-ghost use Rattle.fst_syntax.specs.Reading.{Reads, reads, applied};
+ghost use Rattle.fst_syntax.specs.Reading.{Reads, reads, run, applied};
 ghost use Rattle.fst_syntax.specs.Following.{behind_un, behind_sum, behind_cmp};
 ghost use Rattle.fst_syntax.specs.Nests.{Nests};
+ghost use Rattle.fst_syntax.specs.Tails as tails;
 
 use crate::make;
 use crate::reader::Reader;
 use fst_base::{Box, Pos, both};
-use fst_syntax::{Comparison, Stop, Terminal};
+use fst_syntax::{Comparison, Operator, Stop, Terminal};
 use fst_trees::{Form, Word};
 
 /// The readers of the parts of a term or formula.
@@ -134,11 +135,22 @@ impl<F: Fn(bool, &mut Reader<'_>, usize) -> Result<Form<Word>, Stop>> Terms<F> {
     {
         let mut tree = left;
         'operators: while reader.at(Terminal::BarBar) {
-            let operator = reader.expect(Terminal::BarBar)?;
-            let right = self.conj(reader)?;
-            tree = make::disjunction(reader.alloc(), operator, tree, right)?;
+            let (left, (operator, right)) = both(tree, self.disj_step(reader))?;
+            tree = make::disjunction(reader.alloc(), operator, left, right)?;
         }
         Ok(tree)
+    }
+
+    /// The mark of a disjunction with its right operand.
+    fn disj_step(&self, reader: &mut Reader<'_>) -> Result<(Pos, Form<Word>), Stop>
+        requires nests { Nests self.now.formula self.now.room (F.pre self.now.term) (F.post self.now.term) }
+        requires room { length reader.old ≤ self.now.room }
+        ensures reads { Reads (run (tails.disj_step self.now.formula) reader.old) result reader.new }
+        ensures shorter { OnOk result (length reader.new < length reader.old) }
+    {
+        let operator = reader.expect(Terminal::BarBar)?;
+        let right = self.conj(reader)?;
+        Ok((operator, right))
     }
 
     #[tactic(auto, using(fst_syntax::proofs::Chains::conj_opens))]
@@ -161,11 +173,22 @@ impl<F: Fn(bool, &mut Reader<'_>, usize) -> Result<Form<Word>, Stop>> Terms<F> {
     {
         let mut tree = left;
         'operators: while reader.at(Terminal::AmpAmp) {
-            let operator = reader.expect(Terminal::AmpAmp)?;
-            let right = self.cmp(reader)?;
-            tree = make::conjunction(reader.alloc(), operator, tree, right)?;
+            let (left, (operator, right)) = both(tree, self.conj_step(reader))?;
+            tree = make::conjunction(reader.alloc(), operator, left, right)?;
         }
         Ok(tree)
+    }
+
+    /// The mark of a conjunction with its right operand.
+    fn conj_step(&self, reader: &mut Reader<'_>) -> Result<(Pos, Form<Word>), Stop>
+        requires nests { Nests self.now.formula self.now.room (F.pre self.now.term) (F.post self.now.term) }
+        requires room { length reader.old ≤ self.now.room }
+        ensures reads { Reads (run (tails.conj_step self.now.formula) reader.old) result reader.new }
+        ensures shorter { OnOk result (length reader.new < length reader.old) }
+    {
+        let operator = reader.expect(Terminal::AmpAmp)?;
+        let right = self.cmp(reader)?;
+        Ok((operator, right))
     }
 
     #[tactic(auto, using(fst_syntax::proofs::Opens::opens))]
@@ -250,11 +273,22 @@ impl<F: Fn(bool, &mut Reader<'_>, usize) -> Result<Form<Word>, Stop>> Terms<F> {
     {
         let mut tree = left;
         'operators: while reader.at_sum_operator() {
-            let operator = reader.sum_operator()?;
-            let right = self.prod(reader)?;
-            tree = make::operated(reader.alloc(), operator, tree, right)?;
+            let (left, (operator, right)) = both(tree, self.sum_step(reader))?;
+            tree = make::operated(reader.alloc(), operator, left, right)?;
         }
         Ok(tree)
+    }
+
+    /// The operator of a sum with its right operand.
+    fn sum_step(&self, reader: &mut Reader<'_>) -> Result<(Operator, Form<Word>), Stop>
+        requires nests { Nests self.now.formula self.now.room (F.pre self.now.term) (F.post self.now.term) }
+        requires room { length reader.old ≤ self.now.room }
+        ensures reads { Reads (run (tails.sum_step self.now.formula) reader.old) result reader.new }
+        ensures shorter { OnOk result (length reader.new < length reader.old) }
+    {
+        let operator = reader.sum_operator()?;
+        let right = self.prod(reader)?;
+        Ok((operator, right))
     }
 
     #[tactic(auto, using(fst_syntax::proofs::Chains::prod_opens))]
@@ -277,11 +311,22 @@ impl<F: Fn(bool, &mut Reader<'_>, usize) -> Result<Form<Word>, Stop>> Terms<F> {
     {
         let mut tree = left;
         'operators: while reader.at_prod_operator() {
-            let operator = reader.prod_operator()?;
-            let right = self.un(reader)?;
-            tree = make::operated(reader.alloc(), operator, tree, right)?;
+            let (left, (operator, right)) = both(tree, self.prod_step(reader))?;
+            tree = make::operated(reader.alloc(), operator, left, right)?;
         }
         Ok(tree)
+    }
+
+    /// The operator of a product with its right operand.
+    fn prod_step(&self, reader: &mut Reader<'_>) -> Result<(Operator, Form<Word>), Stop>
+        requires nests { Nests self.now.formula self.now.room (F.pre self.now.term) (F.post self.now.term) }
+        requires room { length reader.old ≤ self.now.room }
+        ensures reads { Reads (run (tails.prod_step self.now.formula) reader.old) result reader.new }
+        ensures shorter { OnOk result (length reader.new < length reader.old) }
+    {
+        let operator = reader.prod_operator()?;
+        let right = self.un(reader)?;
+        Ok((operator, right))
     }
 }
 
