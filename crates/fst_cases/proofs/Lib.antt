@@ -7,3 +7,6 @@ pub mod SearchSteps
 pub mod CoreLemmas
 pub mod ClauseLemmas
 pub mod ClashLemmas
+pub mod KnownLemmas
+pub mod WritingLemmas
+pub mod ArenaLemmas

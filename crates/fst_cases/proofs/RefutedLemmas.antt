@@ -20,7 +20,7 @@ use Rattle.fst_cert.proofs.EquationTruths.{on-inv, holds-inv, both-true}
 
 -- ---- marks
 
-same-self : (m : Mark) → same_mark m m ≡ true
+pub same-self : (m : Mark) → same_mark m m ≡ true
 same-self mark.True = refl
 same-self mark.False = refl
 same-self mark.Less = refl

@@ -1,6 +1,11 @@
 //! Refutations of branches: what they are, and what the steps of a search make of them.
 #![tactic(auto)]
 
+mod arena;
+mod known;
 mod laws;
+mod merging;
+mod trail;
+mod writing;
 
 pub use laws::{clash_law, nothing_law};

@@ -1,0 +1,73 @@
+-- The trail of a search: the marks that stand, and the refutations of the marks before them.
+use Rattle.std.specs.Prelude.{◌≡◌, ℕ, zero, suc, ◌+◌, ◌<◌, Bool, true, false, if◌then◌else◌, List, [], ◌∷◌, ◌++◌, length, map, slice_get, Option, Some, None, IsTrue, ⊤}
+use Rattle.fst_terms.specs.Terms.{Tm}
+use Rattle.fst_terms.specs.Flats.{Flt}
+use Rattle.fst_terms.specs.declared.flat.Mark.{Mark}
+use Rattle.fst_terms.specs.declared.flat.Mark.TheVariants as mark
+use Rattle.fst_terms.specs.Marks.{marks_of, var_sorts, fits}
+use Rattle.fst_cert.specs.declared.line.Line.{Line}
+use Rattle.fst_cases.specs.declared.arena.Refutation.{Refutation}
+use Rattle.fst_cases.specs.declared.arena.Rule.TheVariants as by
+use Rattle.fst_cases.specs.declared.trail.Step.{Step}
+use Rattle.fst_cases.specs.Arenas.{Grows, Writes, branched, core_at}
+use Rattle.fst_cases.specs.Knowing.{Falls, look_of}
+use Rattle.fst_cases.specs.Refuting.{Within, IsRefuted}
+
+abbrev pub marks_in : List Step → List Mark
+marks_in ss = map (λ (s : Step). s.mark) ss
+
+-- the refutation of this number refutes the marks of these first atoms
+pub record RefutesAt (f : Flt) (ns : List Refutation) (ms : List Mark) (i : ℕ) : Type 0 where
+  pub there : i < length ns
+  pub falls : Falls (length ms + 1) (core_at ns i)
+  pub within : Within (look_of (core_at ns i)) (marks_of ms)
+  pub lines : List Line
+  pub written : Writes ns i lines
+  pub refuted : IsRefuted f [] (length ms) (look_of (core_at ns i)) lines
+
+-- the marks before this one of its atom are refuted
+abbrev pub LeftAt : Flt → List Refutation → (ms : List Mark) → Mark → Step → Type 0
+LeftAt f ns ms mark.True s = ⊤
+LeftAt f ns ms mark.False s = RefutesAt f ns (ms ++ mark.True ∷ []) s.on_true
+LeftAt f ns ms mark.Less s = RefutesAt f ns (ms ++ mark.True ∷ []) s.on_true
+LeftAt f ns ms mark.Greater s = RefutesAt f ns (ms ++ mark.True ∷ []) s.on_true × RefutesAt f ns (ms ++ mark.Less ∷ []) s.on_less
+
+-- each mark fits its atom, and the marks of its atom before it are refuted
+pub data Trail (f : Flt) (ns : List Refutation) : List Step → Type 0 where
+  trail_none : Trail f ns []
+  trail_more : (ss : List Step) (s : Step) (t : Tm) → Trail f ns ss → slice_get f.atoms (length ss) ≡ Some t → IsTrue (fits (var_sorts f) t s.mark) → LeftAt f ns (marks_in ss) s.mark s → Trail f ns (ss ++ s ∷ [])
+
+-- ---- the next mark
+
+abbrev pub step_to : Mark → (on_true on_less : ℕ) → Step
+step_to m t l = record { mark = m; on_true = t; on_less = l }
+
+abbrev pub next_by : Mark → Step → (is_number : Bool) → (used : Mark) → (node : ℕ) → Option Step
+next_by mark.True s number used node = Some (step_to (if number then mark.Less else mark.False) node node)
+next_by mark.Less s number mark.False node = None
+next_by mark.Less s number used node = Some (step_to mark.Greater s.on_true node)
+next_by m s number used node = None
+
+-- the mark that is tried after one that is refuted
+abbrev pub next_step : Step → (is_number : Bool) → (used : Mark) → (node : ℕ) → Option Step
+next_step s number used node = next_by s.mark s number used node
+
+-- one refutation was put there, from two
+pub record Splits (old new : List Refutation) (a i j at : ℕ) : Type 0 where
+  pub put : new ≡ old ++ branched old by.Split a i j ∷ []
+  pub last : at ≡ length old
+
+-- two were put there, from three
+pub record Orders (old new : List Refutation) (a i j k at : ℕ) : Type 0 where
+  pub between : List Refutation
+  pub order : between ≡ old ++ branched old by.Order a j k ∷ []
+  pub split : Splits between new a i (length old) at
+
+-- the refutation of all marks of an atom
+abbrev pub closes_by : Mark → (used : Mark) → (old new : List Refutation) → (a : ℕ) → Step → (node at : ℕ) → Type 0
+closes_by mark.Greater mark.False old new a s node at = Splits old new a s.on_true node at
+closes_by mark.Greater used old new a s node at = Orders old new a s.on_true s.on_less node at
+closes_by m used old new a s node at = Splits old new a s.on_true node at
+
+abbrev pub closes : (old new : List Refutation) → (a : ℕ) → Step → (used : Mark) → (node at : ℕ) → Type 0
+closes old new a s used node at = closes_by s.mark used old new a s node at
