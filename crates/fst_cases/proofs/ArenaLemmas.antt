@@ -1,17 +1,16 @@
 -- Refutations stay what they are as more are put there; what a new one refutes.
-use Rattle.std.proofs.Common.{◌≡◌, ◌⊎◌, inl, inr, ℕ, zero, suc, ◌+◌, ◌<◌, ◌≤◌, Bool, true, false, if◌then◌else◌, nat_eq, List, [], ◌∷◌, ◌++◌, length, slice_get, get_or, Some, None, Option, refl, sym, ap, ◌∙◌, subst, arith, length-append}
-use Rattle.std.proofs.lemmas.Bool.{cases_lt}
+use Rattle.std.proofs.Common.{◌≡◌, ◌⊎◌, inl, inr, ℕ, zero, suc, ◌+◌, ◌<◌, ◌≤◌, Bool, true, false, if◌then◌else◌, nat_eq, List, [], ◌∷◌, ◌++◌, length, slice_get, Some, None, Option, IsTrue, refl, sym, ap, ◌∙◌, subst, arith, length-append}
+use Rattle.std.proofs.lemmas.Bool.{cases_lt, eqb-true}
 use Rattle.std.proofs.lemmas.List.{get_or_append_left, get_or_at, length_push}
 use Rattle.fst_terms.specs.Terms.{Tm}
 use Rattle.fst_terms.specs.Flats.{Flt}
 use Rattle.fst_terms.specs.declared.flat.Mark.{Mark}
 use Rattle.fst_terms.specs.declared.flat.Mark.TheVariants as mark
-use Rattle.fst_terms.specs.Marks.{Marking, marks_of, at_number, var_sorts, is_int_equation}
+use Rattle.fst_terms.specs.Marks.{marks_of, at_number, var_sorts, is_int_equation}
 use Rattle.fst_cert.specs.declared.line.Line.{Line}
 use Rattle.fst_cert.specs.declared.line.Line.TheVariants as line
 use Rattle.fst_cert.specs.Proving.{same_mark}
 use Rattle.fst_cases.specs.declared.arena.Refutation.{Refutation}
-use Rattle.fst_cases.specs.declared.arena.Rule.{Rule}
 use Rattle.fst_cases.specs.declared.arena.Rule.TheVariants as by
 use Rattle.fst_cases.specs.declared.known.Known.{Known}
 use Rattle.fst_cases.specs.Knowing.{Falls, look_of, joined, first_mark, without}
@@ -20,8 +19,7 @@ use Rattle.fst_cases.specs.Trails.{RefutesAt, Splits, Orders}
 use Rattle.fst_cases.specs.Refuting.{Within, put, IsRefuted}
 use Rattle.fst_cases.proofs.RefutedLemmas.{within-self, within-more, within-put}
 use Rattle.fst_cases.proofs.RefutationRules.{refuted-more, refuted-split, refuted-order}
-use Rattle.fst_cases.proofs.KnownLemmas.{falls-more, falls-none, joined-falls, first-joined, second-joined, joined-within, without-falls, first-says, without-within, within-without}
-use Rattle.fst_cases.proofs.WritingLemmas.{writes-there}
+use Rattle.fst_cases.proofs.KnownLemmas.{falls-none, joined-falls, first-joined, second-joined, joined-within, without-falls, without-within, within-without}
 
 -- ---- more refutations
 
@@ -193,3 +191,101 @@ split-refutes f old new ms t m i j at q sp r s last =
           (first-rests f old ms mark.True m i j r s mark.True (last-used f old ms mark.True i r)) (refuted-here f old ms mark.True i r)
           (second-rests f old ms mark.True m i j r s mark.False last) (refuted-here f old ms m j s));
     }
+
+pub splits-grow : (old new : List Refutation) (a i j at : ℕ) → Splits old new a i j at → Grows old new
+splits-grow old new a i j at sp = pushed-grows old new _ sp.put
+
+pub orders-grow : (old new : List Refutation) (a i j k at : ℕ) → Orders old new a i j k at → Grows old new
+orders-grow old new a i j k at o = grows-grows old o.between new (pushed-grows old o.between _ o.order) (splits-grow o.between new a i (length old) at o.split)
+
+without-none : (a : ℕ) (ks : List Known) → Falls a ks → without ks a ≡ ks
+without-none a [] h = refl
+without-none a (k ∷ ks) h = go (nat_eq k.atom a) refl
+  where
+    go : (b : Bool) → nat_eq k.atom a ≡ b → (if b then ks else k ∷ ks) ≡ k ∷ ks
+    go true p = absurd (let less = h.0 in omega (arith, less, eqb-true k.atom a p))
+    go false p = refl
+
+-- the three marks of the last atom, an equation of numbers, are refuted
+module _ (f : Flt) (old new : List Refutation) (ms : List Mark) (t : Tm) (i j k at : ℕ) (q : at_number f.atoms (suc (length ms)) ≡ Some t) (int : IsTrue (is_int_equation (var_sorts f) t)) (o : Orders old new (suc (length ms)) i j k at)
+    (r : RefutesAt f old (ms ++ mark.True ∷ []) i) (s : RefutesAt f old (ms ++ mark.Less ∷ []) j) (g : RefutesAt f old (ms ++ mark.Greater ∷ []) k) where
+  abbrev a : ℕ
+  a = suc (length ms)
+
+  -- the marks that the two orders use, and all three
+  abbrev ordered : List Known
+  ordered = rests f old ms j k
+
+  abbrev all : List Known
+  all = joined (without (core_at old i) a) ordered
+
+  ordered-falls : Falls a ordered
+  ordered-falls = rests-falls f old ms mark.Less mark.Greater j k s g
+
+  ordered-within : Within (look_of ordered) (marks_of ms)
+  ordered-within = rests-within f old ms mark.Less mark.Greater j k s g
+
+  all-falls : Falls a all
+  all-falls = joined-falls _ _ a (rest-falls f old ms mark.True i r) ordered-falls
+
+  all-within : Within (look_of all) (marks_of ms)
+  all-within = joined-within (marks_of ms) _ _ a (rest-falls f old ms mark.True i r) ordered-falls (rest-within f old ms mark.True i r) ordered-within
+
+  ordered-in : (m : Mark) → Within (put a m (look_of ordered)) (put a m (look_of all))
+  ordered-in m = within-put (look_of ordered) (look_of all) a m (second-joined (marks_of ms) _ _ a (rest-falls f old ms mark.True i r) ordered-falls (rest-within f old ms mark.True i r) ordered-within)
+
+  true-in : Within (look_of (core_at old i)) (put a mark.True (look_of all))
+  true-in =
+      within-more (look_of (core_at old i)) (put a mark.True (look_of (without (core_at old i) a))) (put a mark.True (look_of all))
+      (within-without a (core_at old i) mark.True (last-used f old ms mark.True i r))
+      (within-put (look_of (without (core_at old i) a)) (look_of all) a mark.True
+      (first-joined (marks_of ms) _ _ a (rest-falls f old ms mark.True i r) ordered-falls (rest-within f old ms mark.True i r) ordered-within))
+
+  less-in : Within (look_of (core_at old j)) (put a mark.Less (look_of all))
+  less-in = within-more (look_of (core_at old j)) (put a mark.Less (look_of ordered)) (put a mark.Less (look_of all)) (first-rests f old ms mark.Less mark.Greater j k s g mark.Less (last-used f old ms mark.Less j s)) (ordered-in mark.Less)
+
+  greater-in : Within (look_of (core_at old k)) (put a mark.Greater (look_of all))
+  greater-in = within-more (look_of (core_at old k)) (put a mark.Greater (look_of ordered)) (put a mark.Greater (look_of all)) (second-rests f old ms mark.Less mark.Greater j k s g mark.Greater (last-used f old ms mark.Greater k g)) (ordered-in mark.Greater)
+
+  order-is : refutation_at o.between (length old) ≡ branched old by.Order a j k
+  order-is = pushed-is old o.between _ (length old) o.order refl
+
+  split-is : refutation_at new at ≡ branched o.between by.Split a i (length old)
+  split-is = pushed-is o.between new _ at o.split.put o.split.last
+
+  first-grows : Grows old o.between
+  first-grows = pushed-grows old o.between _ o.order
+
+  then-grows : Grows o.between new
+  then-grows = pushed-grows o.between new _ o.split.put
+
+  core : all ≡ core_at new at
+  core = sym (
+      ap (λ (n : Refutation). n.core) split-is
+      ∙ ap (λ ks. joined (without ks a) (without (core_at o.between (length old)) a)) (ap (λ (n : Refutation). n.core) (first-grows.same i r.there))
+      ∙ ap (λ ks. joined (without (core_at old i) a) (without ks a)) (ap (λ (n : Refutation). n.core) order-is)
+      ∙ ap (λ ks. joined (without (core_at old i) a) ks) (without-none a ordered ordered-falls))
+
+  there : at < length new
+  there = pushed-there o.between new _ at o.split.put o.split.last
+
+  order-written : Writes o.between (length old) (line.Order a ∷ s.lines ++ g.lines)
+  order-written =
+      writes_order (length old) a j k s.lines g.lines (pushed-there old o.between _ (length old) o.order refl) (ap (λ (n : Refutation). n.rule) order-is) s.there g.there
+      (writes-grown old o.between first-grows j s.lines s.written) (writes-grown old o.between first-grows k g.lines g.written)
+
+  pub order-refutes : RefutesAt f new ms at
+  order-refutes = record {
+    there = there;
+    falls = subst (Falls (length ms + 1)) core (subst (λ n. Falls n all) (let e : suc (length ms) ≡ length ms + 1 = omega arith in e) all-falls);
+    within = subst (λ ks. Within (look_of ks) (marks_of ms)) core all-within;
+    lines = line.Split a ∷ r.lines ++ (line.Order a ∷ s.lines ++ g.lines);
+    written = writes_split at a i (length old) r.lines (line.Order a ∷ s.lines ++ g.lines) there (ap (λ (n : Refutation). n.rule) split-is)
+        (let h = r.there in let l = first-grows.longer in let e = o.split.last in omega (arith, h, l, e))
+        (let l = length_push old (branched old by.Order a j k) in let x = ap length o.order in let e = o.split.last in omega (arith, l, x, e))
+        (writes-grown o.between new then-grows i r.lines (writes-grown old o.between first-grows i r.lines r.written))
+        (writes-grown o.between new then-grows (length old) (line.Order a ∷ s.lines ++ g.lines) order-written);
+    refuted = subst (λ ks. IsRefuted f [] (length ms) (look_of ks) (line.Split a ∷ r.lines ++ (line.Order a ∷ s.lines ++ g.lines))) core
+        (refuted-order f [] (length ms) t (look_of all) (look_of (core_at old i)) (look_of (core_at old j)) (look_of (core_at old k)) r.lines s.lines g.lines q int
+        true-in (refuted-here f old ms mark.True i r) less-in (refuted-here f old ms mark.Less j s) greater-in (refuted-here f old ms mark.Greater k g));
+  }

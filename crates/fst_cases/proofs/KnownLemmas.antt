@@ -1,12 +1,11 @@
 -- Falling lists of marks: what they say of an atom, and what two of them say together.
-use Rattle.std.proofs.Common.{◌≡◌, ℕ, ◌+◌, ◌<◌, ◌≤◌, Bool, true, false, if◌then◌else◌, nat_eq, nat_lt, List, [], ◌∷◌, ◌++◌, length, drop, slice_index_or, Option, Some, None, refl, sym, ap, ◌∙◌, subst, arith, append_assoc}
-use Rattle.std.proofs.lemmas.Bool.{false≢true, eqb-true, eq-eqb, ltb-true, ltb-false, lt-ltb, le-ltb}
+use Rattle.std.proofs.Common.{◌≡◌, ℕ, ◌+◌, ◌<◌, ◌≤◌, Bool, true, false, if◌then◌else◌, nat_eq, nat_lt, List, [], ◌∷◌, ◌++◌, length, slice_index_or, Option, Some, None, refl, sym, ap, ◌∙◌, subst, arith, append_assoc}
+use Rattle.std.proofs.lemmas.Bool.{false≢true, eqb-true, eq-eqb, ltb-true, ltb-false}
 use Rattle.fst_terms.specs.declared.flat.Mark.{Mark}
 use Rattle.fst_terms.specs.declared.flat.Mark.TheVariants as mark
 use Rattle.fst_terms.specs.Marks.{Marking}
 use Rattle.fst_cert.specs.Proving.{same_mark}
 use Rattle.fst_cases.specs.declared.known.Known.{Known}
-use Rattle.fst_cases.specs.declared.merging.Turn.{Turn}
 use Rattle.fst_cases.specs.declared.merging.Turn.TheVariants as turn
 use Rattle.fst_cases.specs.Knowing.{look_of, Falls, stronger, both_known, beside, joined, turn_of, Shows, first_mark, without}
 use Rattle.fst_cases.specs.Refuting.{Within, put}

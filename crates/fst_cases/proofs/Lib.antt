@@ -10,3 +10,6 @@ pub mod ClashLemmas
 pub mod KnownLemmas
 pub mod WritingLemmas
 pub mod ArenaLemmas
+pub mod PlainForms
+pub mod TrailLemmas
+pub mod SideLemmas

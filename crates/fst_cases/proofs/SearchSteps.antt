@@ -98,7 +98,7 @@ module _ (f : Flt) where
 
   -- ---- the invariant of a loop: left marks are refuted along the marks that stand
 
-  left-none : (before : List Mark) (ts : List Tm) → LeftRefuted f before ts []
+  pub left-none : (before : List Mark) (ts : List Tm) → LeftRefuted f before ts []
   left-none before [] = tt
   left-none before (t ∷ ts) = tt
 

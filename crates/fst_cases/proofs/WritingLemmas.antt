@@ -1,13 +1,12 @@
 -- The lines of a refutation, written by a stack of refutations.
-use Rattle.std.proofs.Common.{◌≡◌, ◌⊎◌, inl, inr, ℕ, zero, suc, ◌+◌, ◌<◌, ◌≤◌, List, [], ◌∷◌, ◌++◌, length, get_or, refl, sym, ap, ◌∙◌, subst, arith, append_assoc}
+use Rattle.std.proofs.Common.{◌≡◌, ◌⊎◌, inl, inr, ℕ, zero, suc, ◌+◌, ◌<◌, ◌≤◌, List, [], ◌∷◌, ◌++◌, length, refl, sym, ap, ◌∙◌, subst, arith, append_assoc}
 use Rattle.std.proofs.lemmas.Bool.{cases_lt}
-use Rattle.std.proofs.lemmas.List.{same_from_push, append-nil, get_or_default}
+use Rattle.std.proofs.lemmas.List.{same_from_push, append-nil}
 use Rattle.fst_cert.specs.declared.line.Line.{Line}
 use Rattle.fst_cert.specs.declared.line.Line.TheVariants as line
 use Rattle.fst_cases.specs.declared.arena.Refutation.{Refutation}
-use Rattle.fst_cases.specs.declared.arena.Rule.{Rule}
 use Rattle.fst_cases.specs.declared.arena.Rule.TheVariants as rule
-use Rattle.fst_cases.specs.Arenas.{no_refutation, rule_at, Writes, writes_end, writes_split, writes_order}
+use Rattle.fst_cases.specs.Arenas.{rule_at, Writes, writes_end, writes_split, writes_order}
 
 -- ---- a measure: a refutation weighs more than two earlier ones
 

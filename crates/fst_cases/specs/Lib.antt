@@ -6,3 +6,4 @@ pub mod CaseLaws
 pub mod Knowing
 pub mod Arenas
 pub mod Trails
+pub mod Sides

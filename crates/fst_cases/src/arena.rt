@@ -30,11 +30,7 @@ pub struct Refutation {
 }
 
 /// Puts one more refutation there, and gives its number.
-pub fn add(
-    arena: &mut Seq<Refutation>,
-    core: Seq<Known>,
-    rule: Rule,
-) -> Result<usize, OutOfMemory>
+pub fn add(arena: &mut Seq<Refutation>, core: Seq<Known>, rule: Rule) -> Result<usize, OutOfMemory>
     ensures { IfOk result (λ at. (arena.new ≡ arena.old ++ (record { core = core; rule = rule }) ∷ []) × (at ≡ length arena.old)) }
 {
     let at = arena.len();

@@ -5,6 +5,7 @@ mod arena;
 mod known;
 mod laws;
 mod merging;
+mod sides;
 mod trail;
 mod writing;
 

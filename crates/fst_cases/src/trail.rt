@@ -1,11 +1,15 @@
 //! The marks that stand in a search, and what is known of the marks before them.
 
 ghost use Rattle.std.specs.Prelude.{◌≡◌, ◌<◌, ◌+◌, length, IfOk};
-ghost use Rattle.fst_cases.specs.Trails.{closes, marks_in, next_step};
+ghost use Rattle.fst_cases.specs.Sides.{NoLets};
+ghost use Rattle.fst_cases.specs.Trails.{Advanced, RefutesAt, Retreats, Standing, Trail, closes, marks_in, next_step};
+ghost use Rattle.fst_terms.specs.Flats.{plain_flat};
 
-use crate::arena::{Refutation, order, split};
+use crate::arena::{Refutation, core, order, split};
+use crate::merging::first_mark;
+use crate::sides::is_number;
 use fst_base::{OutOfMemory, Seq};
-use fst_terms::Mark;
+use fst_terms::{Flat, Mark};
 use std::alloc::Global;
 
 /// The mark of an atom, and the numbers of the refutations of the marks before it.
@@ -14,6 +18,13 @@ pub struct Step {
     pub mark: Mark,
     pub on_true: usize,
     pub on_less: usize,
+}
+
+/// What a refutation of marks gives: a mark in place of the last one, or a refutation of the marks before it.
+#[derive(Clone, Copy, Debug)]
+pub enum Retreat {
+    Next(Step),
+    Refuted(usize),
 }
 
 /// The marks of a trail.
@@ -85,4 +96,56 @@ fn number(at: usize) -> Result<u32, OutOfMemory>
         Ok(at) if at < u32::MAX => Ok(at + 1),
         _ => Err(OutOfMemory),
     }
+}
+
+/// What a refutation of these marks and a last one gives.
+fn go_back(
+    alloc: Global,
+    flat: &Flat,
+    arena: &mut Seq<Refutation>,
+    trail: &[Step],
+    last: Step,
+    node: usize,
+) -> Result<Retreat, OutOfMemory>
+    requires plain { NoLets (plain_flat flat.now).atoms }
+    requires standing { Standing (plain_flat flat.now) arena.old trail.now last node }
+    ensures { IfOk result (λ r. Retreats (plain_flat flat.now) arena.old arena.new trail.now last r) }
+{
+    let atom = number(trail.len())?;
+    let Some(used) = first_mark(core(arena.as_slice(), node), atom) else {
+        return Ok(Retreat::Refuted(node));
+    };
+    match next_step(last, is_number(flat, trail.len()), used, node) {
+        Some(step) => Ok(Retreat::Next(step)),
+        None => Ok(Retreat::Refuted(closed(alloc, arena, atom, last, used, node)?)),
+    }
+}
+
+/// Goes back from marks that are refuted to the next ones, over marks that the refutations don't use; where there are none, all is
+/// refuted.
+pub fn advance(
+    alloc: Global,
+    flat: &Flat,
+    arena: &mut Seq<Refutation>,
+    trail: &mut Seq<Step>,
+    node: usize,
+) -> Result<Option<usize>, OutOfMemory>
+    requires plain { NoLets (plain_flat flat.now).atoms }
+    requires trail { Trail (plain_flat flat.now) arena.old trail.old }
+    requires node { RefutesAt (plain_flat flat.now) arena.old (marks_in trail.old) node }
+    ensures { IfOk result (λ o. Advanced (plain_flat flat.now) arena.old arena.new trail.old trail.new o) }
+{
+    let mut refuted = node;
+    while let Some(last) = trail.pop() {
+        match go_back(alloc, flat, arena, trail.as_slice(), last, refuted)? {
+            Retreat::Next(step) => {
+                trail.push(step)?;
+                return Ok(None);
+            }
+            Retreat::Refuted(at) => {
+                refuted = at;
+            }
+        }
+    }
+    Ok(Some(refuted))
 }

@@ -36,11 +36,7 @@ fn branch(
 }
 
 /// The lines that the refutation of this number stands for.
-pub fn write(
-    alloc: Global,
-    arena: &[Refutation],
-    root: usize,
-) -> Result<Seq<Line>, OutOfMemory>
+pub fn write(alloc: Global, arena: &[Refutation], root: usize) -> Result<Seq<Line>, OutOfMemory>
     requires { (lines : List Line) × Writes arena.now root lines }
     ensures { IfOk result (λ lines. Writes arena.now root lines) }
 {

@@ -1,4 +1,4 @@
-use Rattle.std.proofs.Common.{ℕ, ◌∷◌, ◌++◌, [], List, arith, sym, ap, ◌∙◌}
+use Rattle.std.proofs.Common.{ℕ, ◌∷◌, ◌++◌, [], List, sym, ap, ◌∙◌}
 use Rattle.fst_cert.specs.declared.line.Line.{Line}
 use Rattle.fst_cases.proofs.WritingLemmas.{lighter, top-there, writing-begun, writing-end, writing-split, writing-order, split-lighter, order-lighter, written-whole}
 use Rattle.fst_cases.proofs.writing.write.Goals as goal
@@ -16,7 +16,7 @@ pub loop-at-preserved-in-Continue-branch-2 : goal.loop-at-preserved-in-Continue-
 loop-at-preserved-in-Continue-branch-2 c =
     let is = sym c.rule_of.ensures ∙ c.in-Ends.is in
     writing-end c.args.arena.now c.args.root c.loop-at.written c.loop-at.todo c.pop.new.self c.in-Some.at c.loop-at.invariant c.in-Some.ensures _ _ is
-        (c.in_ok-append-in-Ends.ensures ∙ ap (λ (ls : List Line). c.loop-at.written ++ ls) c.as_slice.ensures)
+    (c.in_ok-append-in-Ends.ensures ∙ ap (λ (ls : List Line). c.loop-at.written ++ ls) c.as_slice.ensures)
 
 pub loop-at-smaller-in-Continue-branch-3 : goal.loop-at-smaller-in-Continue-branch-3
 loop-at-smaller-in-Continue-branch-3 c =
