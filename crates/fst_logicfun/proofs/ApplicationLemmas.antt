@@ -1,11 +1,11 @@
 -- The applications in formulas, as the code goes over them.
-use Rattle.std.proofs.Common.{◌≡◌, Bool, true, false, if◌then◌else◌, ℕ, zero, suc, ◌+◌, ◌<◌, List, [], ◌∷◌, ◌++◌, length, get_or, take, map, filter, refl, sym, ap, ap₂, ◌∙◌, arith, add-one}
+use Rattle.std.proofs.Common.{◌≡◌, Bool, true, false, if◌then◌else◌, ℕ, zero, suc, ◌+◌, ◌<◌, List, [], ◌∷◌, ◌++◌, length, get_or, take, map, filter, refl, sym, ap, ◌∙◌, arith, add-one}
 use Rattle.std.proofs.lemmas.List.{append-nil, append_assoc}
 use Rattle.fst_base.specs.declared.op.Op.{Op}
 use Rattle.fst_base.specs.declared.place.Pos.{Pos}
 use Rattle.fst_base.specs.declared.sort.Sort.{Sort}
 use Rattle.fst_base.specs.Sorts.{plain_sort}
-use Rattle.fst_terms.specs.Terms.{Tm, Tms, t_prim, t_if, t_app, row, plain_term, plain_terms}
+use Rattle.fst_terms.specs.Terms.{Tm, t_app, row, plain_term, plain_terms}
 use Rattle.fst_terms.specs.Same.{same_term, is_among, firsts}
 use Rattle.fst_terms.specs.Flats.{parts_of, parts_of_all, parts_of_each}
 use Rattle.fst_terms.specs.declared.term.Term.{Term}

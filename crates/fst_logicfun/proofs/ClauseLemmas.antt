@@ -116,10 +116,10 @@ posted-by t f gives args input ds dslice scope inner slice made t' x is d ds' c 
     ∙ sym (ap (λ o. map (implies (joined D)) (given (option_map plain_term o) (plain_term t ∷ C))) is)
 
 -- those of an application of a function of the program
-pub facts-by : (P : Prog) (k : ℕ) (S : Sort) (ts args : List Term) (t : Term) (f : Fn) (made : List Tm) → t ≡ T.App k S ts → Some f ≡ fun_at P k → args ≡ ts
-    → made ≡ posted (plain_term t) f (own_args f.effect (map plain_term args)) (own_input f.effect (map plain_term args)) → made ≡ of_application P posted (plain_term t)
-facts-by P k S ts args t f made is found e h =
+pub facts-by : (F : Tm → Fn → List Tm → Tm → List Tm) (P : Prog) (k : ℕ) (S : Sort) (ts args : List Term) (t : Term) (f : Fn) (made : List Tm) → t ≡ T.App k S ts → Some f ≡ fun_at P k → args ≡ ts
+    → made ≡ F (plain_term t) f (own_args f.effect (map plain_term args)) (own_input f.effect (map plain_term args)) → made ≡ of_application P F (plain_term t)
+facts-by F P k S ts args t f made is found e h =
     let self : plain_term t ≡ t_app k (plain_sort S) (plain_terms ts) = ap plain_term is ∙ plain-term-App k S ts in
-    h ∙ ap₂ (λ u vs. posted u f (own_args f.effect vs) (own_input f.effect vs)) self (ap (map plain_term) e ∙ sym (listed-row (map plain_term ts)))
-    ∙ ap (λ o. if_there o (λ g. posted (t_app k (plain_sort S) (plain_terms ts)) g (own_args g.effect (listed (plain_terms ts))) (own_input g.effect (listed (plain_terms ts)))) []) found
-    ∙ sym (ap (of_application P posted) self)
+    h ∙ ap₂ (λ u vs. F u f (own_args f.effect vs) (own_input f.effect vs)) self (ap (map plain_term) e ∙ sym (listed-row (map plain_term ts)))
+    ∙ ap (λ o. if_there o (λ g. F (t_app k (plain_sort S) (plain_terms ts)) g (own_args g.effect (listed (plain_terms ts))) (own_input g.effect (listed (plain_terms ts)))) []) found
+    ∙ sym (ap (of_application P F) self)

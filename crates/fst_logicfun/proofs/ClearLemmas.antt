@@ -6,7 +6,7 @@ use Rattle.fst_base.specs.declared.place.Pos.{Pos}
 use Rattle.fst_base.specs.declared.sort.Sort.{Sort}
 use Rattle.fst_base.specs.Sorts.{plain_sort}
 use Rattle.fst_base.specs.Rows.{same_op}
-use Rattle.fst_terms.specs.Terms.{Tm, t_var, t_prim, t_app, t_more, row, listed, plain_term, plain_terms}
+use Rattle.fst_terms.specs.Terms.{Tm, t_var, t_app, t_more, row, listed, plain_term, plain_terms}
 use Rattle.fst_terms.specs.Formulas.{make, vars_from}
 use Rattle.fst_terms.specs.declared.term.Term.{Term}
 use Rattle.fst_terms.specs.declared.term.Term.TheVariants as T

@@ -2,7 +2,7 @@
 use Rattle.std.proofs.Common.{◌≡◌, ℕ, ◌-◌, Bool, true, false, if◌then◌else◌, List, [], ◌∷◌, ◌++◌, map, reverse, length, Option, Some, None, refl, sym, ap, ap₂, ◌∙◌, arith}
 use Rattle.std.proofs.lemmas.List.{append_assoc, append-nil}
 use Rattle.fst_base.specs.Sorts.{Srt}
-use Rattle.fst_terms.specs.Terms.{Tm, Tms, t_var, t_int, t_bool, t_unit, t_prim, t_if, t_app, t_let, row, listed, shift}
+use Rattle.fst_terms.specs.Terms.{Tm, t_bool, t_unit, t_app, row, listed, shift}
 use Rattle.fst_terms.specs.Meaning.{Vr}
 use Rattle.fst_terms.specs.Formulas.{equation, joined, put, puts, sort_of}
 use Rattle.fst_terms.specs.DataFacts.{implies}
@@ -22,7 +22,7 @@ over-none : {A : Type 0} (ls : List A) → over {A = A} {X = Tm} ls (λ a. []) �
 over-none [] = refl
 over-none (a ∷ ls) = over-none ls
 
-over-append : {A B : Type 0} (ls ms : List A) (f : A → List B) → over (ls ++ ms) f ≡ over ls f ++ over ms f
+pub over-append : {A B : Type 0} (ls ms : List A) (f : A → List B) → over (ls ++ ms) f ≡ over ls f ++ over ms f
 over-append [] ms f = refl
 over-append (a ∷ ls) ms f = ap (λ xs. f a ++ xs) (over-append ls ms f) ∙ sym (append_assoc (f a) (over ls f) (over ms f))
 

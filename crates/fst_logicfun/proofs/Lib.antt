@@ -6,3 +6,11 @@ pub mod ClauseLemmas
 pub mod ApplicationLemmas
 pub mod RoundLemmas
 pub mod EndLemmas
+pub mod DmForms
+pub mod SortLemmas
+pub mod WayLemmas
+pub mod CompForms
+pub mod TurnLemmas
+pub mod UnfoldLemmas
+pub mod CallLemmas
+pub mod HeaderLemmas

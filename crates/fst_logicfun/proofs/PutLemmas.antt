@@ -13,7 +13,7 @@ use Rattle.fst_terms.proofs.PlainLemmas.{plain-term-Prim, plain-term-App}
 use Rattle.fst_logicfun.specs.Parts.{scope_of}
 use Rattle.fst_logicfun.proofs.ClearLemmas.{scope-push}
 
-put-row : (us : List Tm) (ts : List Term) → row (map (λ t. put us (plain_term t)) ts) ≡ puts us (plain_terms ts)
+pub put-row : (us : List Tm) (ts : List Term) → row (map (λ t. put us (plain_term t)) ts) ≡ puts us (plain_terms ts)
 put-row us [] = refl
 put-row us (t ∷ ts) = ap (t_more (put us (plain_term t))) (put-row us ts)
 
@@ -32,7 +32,7 @@ put-App-by us k S S' ts args vs t is s e f =
 
 -- ---- scopes under one variable more
 
-map-reverse : (f : Tm → Tm) (ts : List Tm) → map f (reverse ts) ≡ reverse (map f ts)
+pub map-reverse : {A B : Type 0} (f : A → B) (ts : List A) → map f (reverse ts) ≡ reverse (map f ts)
 map-reverse f [] = refl
 map-reverse f (t ∷ ts) =
     ap (map f) (reverse-append (t ∷ []) ts) ∙ map-append f (reverse ts) (t ∷ []) ∙ ap (λ us. us ++ f t ∷ []) (map-reverse f ts) ∙ sym (reverse-append (f t ∷ []) (map f ts))

@@ -1,5 +1,5 @@
 -- A round of facts, from what its two steps add.
-use Rattle.std.proofs.Common.{◌≡◌, ℕ, zero, suc, ◌+◌, ◌<◌, Bool, true, false, if◌then◌else◌, List, [], ◌∷◌, ◌++◌, length, get_or, map, take, drop, flat_map, Some, refl, sym, subst, ap, ap₂, ◌∙◌, add-one}
+use Rattle.std.proofs.Common.{◌≡◌, ℕ, zero, suc, ◌+◌, ◌<◌, Bool, true, false, if◌then◌else◌, List, [], ◌∷◌, ◌++◌, length, get_or, map, reverse, take, drop, flat_map, Some, refl, sym, subst, ap, ap₂, ◌∙◌, add-one}
 use Rattle.std.proofs.lemmas.List.{append-nil, append_assoc, length-map, map-append, take-append-drop}
 use Rattle.std.proofs.lemmas.Grind.{flat_map-append}
 use Rattle.fst_terms.specs.Terms.{Tm, plain_term}
@@ -8,11 +8,13 @@ use Rattle.fst_terms.specs.Same.{is_among, firsts}
 use Rattle.fst_terms.specs.Flats.{parts_of_each}
 use Rattle.fst_terms.specs.DataFacts.{again}
 use Rattle.fst_terms.specs.Formulas.{vars_from}
-use Rattle.fst_terms.specs.Meaning.{plain_var, plain_sequent}
+use Rattle.fst_terms.specs.Meaning.{Sqt, plain_var, plain_sequent}
+use Rattle.fst_terms.specs.declared.sequent.Var.{Var}
 use Rattle.fst_terms.specs.declared.sequent.Sequent.{Sequent}
 use Rattle.fst_terms.specs.declared.term.Term.{Term}
-use Rattle.fst_program.specs.FunctionFacts.{applications, of_application, posted, postconditions}
+use Rattle.fst_program.specs.FunctionFacts.{all_clear, applications, function_facts, of_application, posted, postconditions, unfolded, unfoldings}
 use Rattle.fst_program.specs.Plain.{plain_fun, plain_program}
+use Rattle.fst_program.specs.Texts.{Prog}
 use Rattle.fst_program.specs.declared.fun.Program.{Program}
 use Rattle.fst_logicfun.specs.Rounds.{next, Gathered, Moved}
 use Rattle.fst_logicfun.proofs.ApplicationLemmas.{picked_out, applications-more, all-more}
@@ -120,3 +122,29 @@ posts-by p s n count phis e f =
 -- facts that are cleared by the code
 pub cleared-by : (us vs : List Tm) (facts slice : List Term) (fs made : List Tm) → vs ≡ us → slice ≡ facts → map plain_term facts ≡ fs → made ≡ map (λ t. cleared vs (plain_term t)) slice → made ≡ map (cleared us) fs
 cleared-by us vs facts slice fs made e s f h = h ∙ map-map (cleared vs) slice ∙ ap₂ (λ vs ts. map (cleared vs) ts) e (ap (map plain_term) s ∙ f)
+
+-- the facts of a sequent, from those of each kind
+pub both-facts : (p : Program) (s : Sequent) (depth n : ℕ) (vars : List Var) (phis fslice fslice' ways wslice wslice' all given gslice made : List Term)
+    → n ≡ length s.vars → vars ≡ s.vars
+    → map plain_term phis ≡ map (cleared (vars_from 0 n)) ((plain_sequent s).hyps ++ (plain_sequent s).goal ∷ [])
+    → fslice ≡ phis → map plain_term ways ≡ again depth (next (vars_from 0 n) (of_application (plain_program p) (unfolded (plain_program p) (reverse (map plain_var vars)))) (map plain_term fslice)) []
+    → fslice' ≡ phis → wslice ≡ ways → all ≡ fslice' ++ wslice
+    → map plain_term given ≡ postconditions (plain_program p) (plain_sequent s) (map plain_term all)
+    → wslice' ≡ ways → gslice ≡ given → made ≡ wslice' ++ gslice
+    → map plain_term made ≡ function_facts (plain_program p) (plain_sequent s) depth
+both-facts p s depth n vars phis fslice fslice' ways wslice wslice' all given gslice made ns vs cl f1 u f2 w1 a g w2 g1 m =
+    let P : Prog = plain_program p in
+    let S : Sqt = plain_sequent s in
+    let size : n ≡ length S.vars = ns ∙ sym (length-map s.vars plain_var) in
+    let start : List Tm = all_clear (length S.vars) (S.hyps ++ S.goal ∷ []) in
+    let starts : map plain_term phis ≡ start = cl ∙ ap (λ n. map (cleared (vars_from 0 n)) (S.hyps ++ S.goal ∷ [])) size in
+    let unfolds : map plain_term ways ≡ unfoldings P S start depth =
+    u ∙ ap (λ ts. again depth (next (vars_from 0 n) (of_application P (unfolded P (reverse (map plain_var vars)))) ts) []) (ap (map plain_term) f1 ∙ starts)
+    ∙ ap₂ (λ n vs. again depth (next (vars_from 0 n) (of_application P (unfolded P (reverse vs))) start) []) size (ap (map plain_var) vs) in
+    let both : map plain_term all ≡ start ++ unfoldings P S start depth = ap (map plain_term) (a ∙ ap₂ ◌++◌ f2 w1) ∙ map-append plain_term phis ways ∙ ap₂ ◌++◌ starts unfolds in
+    let posts : map plain_term given ≡ postconditions P S (start ++ unfoldings P S start depth) = g ∙ ap (postconditions P S) both in
+    ap (map plain_term) (m ∙ ap₂ ◌++◌ w2 g1) ∙ map-append plain_term ways given ∙ ap₂ ◌++◌ unfolds posts
+
+-- the hypotheses and the goal
+pub all-by : (s : Sequent) (all slice : List Term) → all ≡ slice ++ s.goal ∷ [] → slice ≡ s.hyps → map plain_term all ≡ (plain_sequent s).hyps ++ (plain_sequent s).goal ∷ []
+all-by s all slice e f = ap (map plain_term) (e ∙ ap (λ hs. hs ++ s.goal ∷ []) f) ∙ map-append plain_term s.hyps (s.goal ∷ [])

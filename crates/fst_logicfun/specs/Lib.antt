@@ -2,3 +2,5 @@ pub mod Ends
 pub mod Makes
 pub mod Parts
 pub mod Rounds
+pub mod Ways
+pub mod Turns

@@ -1,8 +1,10 @@
 -- Forms of terms and scopes for private functions.
-use Rattle.std.specs.Prelude.{ℕ, if◌then◌else◌, List, map, get_or, reverse, Option, Some, None, option_map}
+use Rattle.std.specs.Prelude.{ℕ, if◌then◌else◌, List, map, get_or, reverse, Option, Some, None}
 use Rattle.fst_base.specs.declared.op.Op.{Op}
 use Rattle.fst_base.specs.declared.op.Op.TheVariants as op
 use Rattle.fst_base.specs.Rows.{same_op}
+use Rattle.fst_base.specs.Sorts.{Srt, plain_sort}
+use Rattle.fst_base.specs.declared.sort.Sort.{Sort}
 use Rattle.fst_terms.specs.Terms.{Tm, t_unit, t_prim, listed, plain_term}
 use Rattle.fst_terms.specs.declared.term.Term.{Term}
 
@@ -34,3 +36,7 @@ first_of ts = get_or ts 0 t_unit
 -- the terms for the variables, from those of a scope: the last variable's first
 abbrev pub scope_of : List Term → List Tm
 scope_of ts = reverse (map plain_term ts)
+
+-- the sorts of the variables, from those of a scope: the last variable's first
+abbrev pub sorts_in : List Sort → List Srt
+sorts_in Ss = reverse (map plain_sort Ss)

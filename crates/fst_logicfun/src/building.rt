@@ -5,7 +5,7 @@ ghost use Rattle.fst_base.specs.Sorts.{plain_sort};
 ghost use Rattle.fst_base.specs.declared.op.Op.TheVariants as op;
 ghost use Rattle.fst_logicfun.specs.Makes.{Makes};
 ghost use Rattle.fst_terms.specs.DataFacts.{implies, op_term};
-ghost use Rattle.fst_terms.specs.Formulas.{both, equation, joined};
+ghost use Rattle.fst_terms.specs.Formulas.{both, equation, joined, negation};
 ghost use Rattle.fst_terms.specs.Terms.{Tm, plain_term, t_bool, t_if};
 
 use crate::making::prim;
@@ -54,6 +54,13 @@ pub fn equation(alloc: Global, left: Made, right: Made) -> Made
     ensures { (d e : Tm) → Makes left d → Makes right e → Makes result (equation d e) }
 {
     binary(alloc, Op::Eq, &Sort::Bool, left, right)
+}
+
+/// The formula's negation.
+pub fn negation(alloc: Global, formula: Made) -> Made
+    ensures { (e : Tm) → Makes formula e → Makes result (negation e) }
+{
+    choice(alloc, formula, truth(false), truth(true))
 }
 
 /// Both of the two formulas.

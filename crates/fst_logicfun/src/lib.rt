@@ -2,14 +2,25 @@
 #![tactic(auto)]
 
 mod applying;
+mod branch_turns;
 mod building;
+mod call_turns;
+mod cases;
 mod clauses;
 mod clearing;
 mod copying;
+mod definition_turns;
 mod making;
 mod posting;
 mod putting;
 mod raising;
 mod rounds;
+mod sort_putting;
+mod sorting;
+mod text_sorts;
+mod turns;
+mod unfolding;
+mod walking;
+mod ways;
 
-pub use rounds::postconditions;
+pub use rounds::{function_facts, postconditions};

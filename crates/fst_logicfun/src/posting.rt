@@ -1,9 +1,10 @@
-//! Postconditions of applications.
+//! The facts of applications: postconditions, or unfoldings.
 
 ghost use Rattle.std.specs.Prelude.{◌≡◌, ◌∷◌, map, option_map, IfOk};
 ghost use Rattle.fst_logicfun.specs.Makes.{Makes};
 ghost use Rattle.fst_logicfun.specs.Parts.{scope_of};
-ghost use Rattle.fst_program.specs.FunctionFacts.{of_application, own_args, own_input, posted};
+ghost use Rattle.fst_logicfun.specs.Rounds.{each_of, facts_by};
+ghost use Rattle.fst_program.specs.FunctionFacts.{own_args, own_input, posted};
 ghost use Rattle.fst_program.specs.Plain.{plain_fun, plain_program};
 ghost use Rattle.fst_terms.specs.DataFacts.{implies};
 ghost use Rattle.fst_terms.specs.Formulas.{joined, put};
@@ -13,6 +14,8 @@ use crate::building::{Made, implies, joined};
 use crate::clauses::{clause_scope, demands, fun_at, own_args, own_input};
 use crate::copying::pushed;
 use crate::putting::put;
+use crate::unfolding::unfolded;
+use crate::ways::Which;
 use fst_base::{OutOfMemory, Seq, one};
 use fst_program::{Fun, Program};
 use fst_terms::{Formula, Term};
@@ -78,14 +81,36 @@ fn posted_at(
     )
 }
 
-/// The postconditions of a term: none, where it is no application of a function of the program.
+/// The wanted facts of an application of the function to these arguments.
+fn facts_at(
+    alloc: Global,
+    program: &Program,
+    which: &Which,
+    application: &Term,
+    fun: &Fun,
+    args: &[Term],
+) -> Result<Seq<Term>, OutOfMemory>
+    ensures { IfOk result (λ made. map plain_term made ≡ facts_by (plain_program program.now) which.now (plain_term application.now) (plain_fun fun.now) (own_args fun.now.effect (map plain_term args.now)) (own_input fun.now.effect (map plain_term args.now))) }
+{
+    match which {
+        Which::Postconditions => posted_at(alloc, application, fun, args),
+        Which::Unfoldings(vars) => unfolded(alloc, program, vars, application, fun, args),
+    }
+}
+
+/// The wanted facts of a term: none, where it is no application of a function of the program.
 #[tactic(auto, using(crate::proofs::PlainForms::plain_variants))]
-pub fn facts_of(alloc: Global, program: &Program, term: &Term) -> Result<Seq<Term>, OutOfMemory>
-    ensures { IfOk result (λ made. map plain_term made ≡ of_application (plain_program program.now) posted (plain_term term.now)) }
+pub fn facts_of(
+    alloc: Global,
+    program: &Program,
+    which: &Which,
+    term: &Term,
+) -> Result<Seq<Term>, OutOfMemory>
+    ensures { IfOk result (λ made. map plain_term made ≡ each_of (plain_program program.now) which.now (plain_term term.now)) }
 {
     match term {
         Term::App(function, _, args) => match fun_at(program, *function) {
-            Some(fun) => posted_at(alloc, term, fun, args.as_slice()),
+            Some(fun) => facts_at(alloc, program, which, term, fun, args.as_slice()),
             None => Ok(Seq::new(alloc)),
         },
         _ => Ok(Seq::new(alloc)),

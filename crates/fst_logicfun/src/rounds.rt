@@ -1,8 +1,8 @@
 //! Rounds of facts: each takes the applications that stand as it begins.
 
-ghost use Rattle.std.specs.Prelude.{◌≡◌, ◌++◌, List, [], flat_map, length, map, IfOk, OnOk};
-ghost use Rattle.fst_logicfun.specs.Rounds.{Gathered, Moved, next};
-ghost use Rattle.fst_program.specs.FunctionFacts.{of_application, posted, postconditions};
+ghost use Rattle.std.specs.Prelude.{◌≡◌, ◌++◌, ◌∷◌, List, [], flat_map, length, map, IfOk, OnOk};
+ghost use Rattle.fst_logicfun.specs.Rounds.{Gathered, Moved, each_of, next};
+ghost use Rattle.fst_program.specs.FunctionFacts.{function_facts, postconditions};
 ghost use Rattle.fst_program.specs.Plain.{plain_program};
 ghost use Rattle.fst_terms.specs.Cleared.{cleared};
 ghost use Rattle.fst_terms.specs.DataFacts.{again};
@@ -12,8 +12,9 @@ ghost use Rattle.fst_terms.specs.Terms.{Tm, plain_term};
 
 use crate::applying::add_applications;
 use crate::clearing::{clear_all, variables};
-use crate::copying::after;
+use crate::copying::{after, copy_terms};
 use crate::posting::facts_of;
+use crate::ways::Which;
 use fst_base::{OutOfMemory, Seq};
 use fst_program::Program;
 use fst_terms::{Sequent, Term};
@@ -23,12 +24,13 @@ use std::alloc::Global;
 fn cleared_facts(
     alloc: Global,
     program: &Program,
+    which: &Which,
     term: &Term,
     n: u32,
 ) -> Result<Seq<Term>, OutOfMemory>
-    ensures { IfOk result (λ made. map plain_term made ≡ map (cleared (vars_from 0 n)) (of_application (plain_program program.now) posted (plain_term term.now))) }
+    ensures { IfOk result (λ made. map plain_term made ≡ map (cleared (vars_from 0 n)) (each_of (plain_program program.now) which.now (plain_term term.now))) }
 {
-    let facts = facts_of(alloc, program, term)?;
+    let facts = facts_of(alloc, program, which, term)?;
     let mut scope = variables(alloc, n)?;
     clear_all(alloc, facts.as_slice(), &mut scope)
 }
@@ -37,14 +39,15 @@ fn cleared_facts(
 fn add_facts(
     alloc: Global,
     program: &Program,
+    which: &Which,
     terms: &[Term],
     n: u32,
     facts: &mut Seq<Term>,
 ) -> Result<(), OutOfMemory>
-    ensures { OnOk result (map plain_term facts.new ≡ map plain_term facts.old ++ map (cleared (vars_from 0 n)) (flat_map (of_application (plain_program program.now) posted) (map plain_term terms.now))) }
+    ensures { OnOk result (map plain_term facts.new ≡ map plain_term facts.old ++ map (cleared (vars_from 0 n)) (flat_map (each_of (plain_program program.now) which.now) (map plain_term terms.now))) }
 {
     for term in terms {
-        let more = cleared_facts(alloc, program, term, n)?;
+        let more = cleared_facts(alloc, program, which, term, n)?;
         facts.append(more)?;
     }
     Ok(())
@@ -54,16 +57,17 @@ fn add_facts(
 fn round(
     alloc: Global,
     program: &Program,
+    which: &Which,
     used: usize,
     n: u32,
     applications: &mut Seq<Term>,
     facts: &mut Seq<Term>,
 ) -> Result<(), OutOfMemory>
-    ensures { OnOk result ((phis : List Tm) → Gathered (vars_from 0 n) (of_application (plain_program program.now) posted) phis (map plain_term applications.old) (map plain_term facts.old) used → Moved (vars_from 0 n) (of_application (plain_program program.now) posted) phis (map plain_term facts.old) (length applications.old) (map plain_term applications.new) (map plain_term facts.new)) }
+    ensures { OnOk result ((phis : List Tm) → Gathered (vars_from 0 n) (each_of (plain_program program.now) which.now) phis (map plain_term applications.old) (map plain_term facts.old) used → Moved (vars_from 0 n) (each_of (plain_program program.now) which.now) phis (map plain_term facts.old) (length applications.old) (map plain_term applications.new) (map plain_term facts.new)) }
 {
     let known = facts.len();
     let terms = after(applications.as_slice(), used);
-    add_facts(alloc, program, terms, n, facts)?;
+    add_facts(alloc, program, which, terms, n, facts)?;
     add_applications(alloc, after(facts.as_slice(), known), applications)
 }
 
@@ -71,11 +75,12 @@ fn round(
 fn rounds(
     alloc: Global,
     program: &Program,
+    which: &Which,
     formulas: &[Term],
     count: usize,
     n: u32,
 ) -> Result<Seq<Term>, OutOfMemory>
-    ensures { IfOk result (λ facts. map plain_term facts ≡ again count (next (vars_from 0 n) (of_application (plain_program program.now) posted) (map plain_term formulas.now)) []) }
+    ensures { IfOk result (λ facts. map plain_term facts ≡ again count (next (vars_from 0 n) (each_of (plain_program program.now) which.now) (map plain_term formulas.now)) []) }
 {
     let mut applications = Seq::new(alloc);
     add_applications(alloc, formulas, &mut applications)?;
@@ -84,11 +89,47 @@ fn rounds(
     let mut turn = 0;
     while turn < count {
         let before = applications.len();
-        round(alloc, program, used, n, &mut applications, &mut facts)?;
+        round(
+            alloc,
+            program,
+            which,
+            used,
+            n,
+            &mut applications,
+            &mut facts,
+        )?;
         used = before;
         turn += 1;
     }
     Ok(facts)
+}
+
+/// The sequent's hypotheses and goal, without lets and places.
+fn formulas(alloc: Global, sequent: &Sequent, n: u32) -> Result<Seq<Term>, OutOfMemory>
+    ensures { IfOk result (λ made. map plain_term made ≡ map (cleared (vars_from 0 n)) ((plain_sequent sequent.now).hyps ++ (plain_sequent sequent.now).goal ∷ [])) }
+{
+    let all = with_goal(alloc, sequent.hyps.as_slice(), &sequent.goal)?;
+    let mut scope = variables(alloc, n)?;
+    clear_all(alloc, all.as_slice(), &mut scope)
+}
+
+/// The hypotheses, and then the goal.
+fn with_goal(alloc: Global, hyps: &[Term], goal: &Term) -> Result<Seq<Term>, OutOfMemory>
+    ensures { IfOk result (λ made. made ≡ hyps.now ++ goal.now ∷ []) }
+{
+    let mut made = copy_terms(alloc, hyps)?;
+    made.push(goal.copy(alloc)?)?;
+    Ok(made)
+}
+
+/// These formulas and those, in a list.
+fn together(alloc: Global, first: &[Term], second: &[Term]) -> Result<Seq<Term>, OutOfMemory>
+    ensures { IfOk result (λ made. made ≡ first.now ++ second.now) }
+{
+    let mut made = copy_terms(alloc, first)?;
+    let second = copy_terms(alloc, second)?;
+    made.append(second)?;
+    Ok(made)
 }
 
 /// The postconditions of all applications in these formulas, which hold no let and have place 0 throughout, over the
@@ -104,7 +145,41 @@ pub fn postconditions(
     let vars = sequent.vars.len();
     let n = count(vars)?;
     let functions = program.funs.len();
-    rounds(alloc, program, formulas.as_slice(), functions, n)
+    rounds(
+        alloc,
+        program,
+        &Which::Postconditions,
+        formulas.as_slice(),
+        functions,
+        n,
+    )
+}
+
+/// The facts of functions for a sequent: what the applications in it unfold to, in so many rounds, and then the
+/// postconditions of all applications in it and in these facts. No fact holds a let, and places are 0 throughout.
+/// `Err` is want of memory, or 2^32 variables or more.
+pub fn function_facts(
+    alloc: Global,
+    program: &Program,
+    sequent: &Sequent,
+    depth: u32,
+) -> Result<Seq<Term>, OutOfMemory>
+    ensures { IfOk result (λ facts. map plain_term facts ≡ function_facts (plain_program program.now) (plain_sequent sequent.now) depth) }
+{
+    let n = count(sequent.vars.len())?;
+    let formulas = formulas(alloc, sequent, n)?;
+    let unfoldings = Which::Unfoldings(sequent.vars.as_slice());
+    let ways = rounds(
+        alloc,
+        program,
+        &unfoldings,
+        formulas.as_slice(),
+        depth as usize,
+        n,
+    )?;
+    let all = together(alloc, formulas.as_slice(), ways.as_slice())?;
+    let given = postconditions(alloc, program, sequent, &all)?;
+    together(alloc, ways.as_slice(), given.as_slice())
 }
 
 fn count(items: usize) -> Result<u32, OutOfMemory>

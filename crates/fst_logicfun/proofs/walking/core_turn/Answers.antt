@@ -1,0 +1,8 @@
+use Rattle.std.proofs.lemmas.Result.{IfOk-weaker}
+use Rattle.fst_logicfun.specs.Turns.{turns_at}
+use Rattle.fst_logicfun.proofs.CompForms.{match-ends-by}
+use Rattle.fst_logicfun.proofs.walking.core_turn.Goals as goal
+
+pub returns-in-Match : goal.returns-in-Match
+returns-in-Match c =
+    IfOk-weaker c.match_turn.result _ _ (λ made e. match-ends-by c.args.at.now _ _ _ _ c.args.text.now (turns_at c.args.at.now made) c.in-Match.is c.as_slice.ensures e) c.match_turn.ensures
