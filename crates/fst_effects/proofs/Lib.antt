@@ -1,1 +1,11 @@
 mod Examples
+mod PlainLemmas
+mod ScopeLemmas
+mod WantLemmas
+mod FaultLemmas
+mod GivenLemmas
+mod PrimitiveLemmas
+mod NodePlaces
+mod RowLemmas
+mod CheckLemmas
+mod CoreLemmas

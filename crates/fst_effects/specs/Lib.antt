@@ -3,3 +3,5 @@ pub mod TermSorts
 pub mod Patterns
 pub mod TextSorts
 pub mod Definitions
+pub mod Scopes
+pub mod TermChecks
