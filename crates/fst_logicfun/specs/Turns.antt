@@ -1,7 +1,8 @@
 -- What a text comes to in one turn of its walk.
-use Rattle.std.specs.Prelude.{if◌then◌else◌, List, [], ◌∷◌, ◌++◌, map, reverse, Option, Some, None, option_map}
+use Rattle.std.specs.Prelude.{◌≡◌, if◌then◌else◌, List, [], ◌∷◌, ◌++◌, map, reverse, Option, Some, None, option_map}
 use Rattle.std.specs.Option.{option_copied}
 use Rattle.fst_base.specs.Sorts.{Srt, plain_sort}
+use Rattle.fst_terms.specs.Formulas.{sort_of}
 use Rattle.fst_terms.specs.Terms.{Tm, t_unit, plain_term}
 use Rattle.fst_program.specs.declared.comp.Arm.{Arm}
 use Rattle.fst_program.specs.declared.comp.Comp.{Comp}
@@ -9,7 +10,7 @@ use Rattle.fst_program.specs.declared.comp.Con.{Con}
 use Rattle.fst_program.specs.declared.definition.DmTerm.{DmTerm}
 use Rattle.fst_program.specs.Plain.{plain_comp, plain_dm, plain_program}
 use Rattle.fst_program.specs.Texts.{Cm, CmArms, c_end, c_arm, Dm, DmArms, d_end, d_arm, Prog}
-use Rattle.fst_program.specs.Paths.{over, dm_at, dm_arms_at}
+use Rattle.fst_program.specs.Paths.{over, dm_at, dm_arms_at, text_sort}
 use Rattle.fst_logicfun.specs.Ends.{End, Turn, Taken, Run, at_end, ends, arm_ends, dm_ends, dm_arm_ends}
 use Rattle.fst_logicfun.specs.Parts.{scope_of, sorts_in}
 use Rattle.fst_logicfun.specs.Ways.{plain_end}
@@ -65,6 +66,13 @@ module _ (P : Prog) (Ss : List Srt) where
 abbrev pub ends_at : Cm → At → List End
 ends_at c at = ends (plain_program at.program.now) (sorts_in at.sorts.now) c (scope_of at.scope.now) (plain_term at.input.now) (scope_of at.hyps.now)
 
+-- the sort of the value of a text where the walk stands, and of one under a variable more
+abbrev pub value_sort : Cm → At → Srt
+value_sort c at = text_sort (plain_program at.program.now) (map (sort_of (sorts_in at.sorts.now)) (scope_of at.scope.now)) c
+
+abbrev pub next_sort : (first : Srt) → Cm → At → Srt
+next_sort S c at = text_sort (plain_program at.program.now) (S ∷ map (sort_of (sorts_in at.sorts.now)) (scope_of at.scope.now)) c
+
 -- a turn that comes to these ends
 abbrev pub turns_at : At → U.Turn → List End
 turns_at at t = turn_ends (plain_program at.program.now) (sorts_in at.sorts.now) t
@@ -88,6 +96,18 @@ dm_arms_in (arm ∷ more) = d_arm arm.con arm.names (plain_dm arm.body) (dm_arms
 abbrev pub dm_first_con : DmArms → Option Con
 dm_first_con d_end = None
 dm_first_con (d_arm c xs d more) = Some c
+
+-- a header with these computations, terms for their variables, and sorts
+pub record Heads (h : Header) (first second : Option Cm) (us : List Tm) (A B : Srt) : Type 0 where
+  pub first_is : option_map plain_comp (option_copied h.first) ≡ first
+  pub second_is : option_map plain_comp (option_copied h.second) ≡ second
+  pub scope_is : scope_of h.scope ≡ us
+  pub a_is : plain_sort h.a ≡ A
+  pub b_is : plain_sort h.b ≡ B
+
+-- the ends of definition text on the terms us and the hypotheses hs, by a header
+abbrev pub header_ends : Prog → (Ss : List Srt) → Header → Dm → (us hs : List Tm) → List End
+header_ends P Ss h d us hs = dm_ends P Ss (first_run P Ss h) (second_run P Ss h) (dm_at (plain_sort h.a) (plain_sort h.b) d) us hs
 
 -- the ends of definition text by a header
 abbrev pub dm_ends_at : Dm → Header → At → List End

@@ -10,6 +10,7 @@ mod clauses;
 mod clearing;
 mod copying;
 mod definition_turns;
+mod header_turns;
 mod making;
 mod posting;
 mod putting;

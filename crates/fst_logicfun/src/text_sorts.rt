@@ -59,6 +59,27 @@ pub fn result_sort(
     }
 }
 
+/// The sorts with one more.
+pub fn extended(alloc: Global, sorts: &[Sort], sort: &Sort) -> Result<Seq<Sort>, OutOfMemory>
+    ensures { IfOk result (λ inner. sorts_in inner ≡ plain_sort sort.now ∷ sorts_in sorts.now) }
+{
+    let inner = copy_sorts(alloc, sorts)?;
+    pushed(inner, sort.copy(alloc)?)
+}
+
+/// The sorts with two more.
+fn extended_twice(
+    alloc: Global,
+    sorts: &[Sort],
+    first: &Sort,
+    second: &Sort,
+) -> Result<Seq<Sort>, OutOfMemory>
+    ensures { IfOk result (λ inner. sorts_in inner ≡ plain_sort second.now ∷ plain_sort first.now ∷ sorts_in sorts.now) }
+{
+    let inner = extended(alloc, sorts, first)?;
+    extended(alloc, inner.as_slice(), second)
+}
+
 /// The sorts of the variables and of the parts of a constructor.
 #[tactic(auto, using(crate::proofs::PlainForms::plain_variants))]
 fn with_parts(
@@ -69,20 +90,15 @@ fn with_parts(
 ) -> Result<Seq<Sort>, OutOfMemory>
     ensures { IfOk result (λ inner. sorts_in inner ≡ part_sorts con (plain_sort sort.now) ++ sorts_in sorts.now) }
 {
-    let inner = copy_sorts(alloc, sorts)?;
     match (con, sort) {
-        (Con::Full, Sort::Opt(item)) => pushed(inner, item.get().copy(alloc)?),
-        (Con::Cons, Sort::List(item)) => {
-            let inner = pushed(inner, item.get().copy(alloc)?)?;
-            pushed(inner, sort.copy(alloc)?)
-        }
-        (Con::Left, Sort::Either(left, _)) => pushed(inner, left.get().copy(alloc)?),
-        (Con::Right, Sort::Either(_, right)) => pushed(inner, right.get().copy(alloc)?),
+        (Con::Full, Sort::Opt(item)) => extended(alloc, sorts, item.get()),
+        (Con::Cons, Sort::List(item)) => extended_twice(alloc, sorts, item.get(), sort),
+        (Con::Left, Sort::Either(left, _)) => extended(alloc, sorts, left.get()),
+        (Con::Right, Sort::Either(_, right)) => extended(alloc, sorts, right.get()),
         (Con::Pair, Sort::Pair(left, right)) => {
-            let inner = pushed(inner, left.get().copy(alloc)?)?;
-            pushed(inner, right.get().copy(alloc)?)
+            extended_twice(alloc, sorts, left.get(), right.get())
         }
-        _ => Ok(inner),
+        _ => copy_sorts(alloc, sorts),
     }
 }
 
@@ -138,14 +154,6 @@ fn rest_sort(
 {
     let inner = extended(alloc, sorts, first)?;
     text_sort(alloc, rest, program, inner.as_slice())
-}
-
-/// The sorts with one more.
-pub fn extended(alloc: Global, sorts: &[Sort], sort: &Sort) -> Result<Seq<Sort>, OutOfMemory>
-    ensures { IfOk result (λ inner. sorts_in inner ≡ plain_sort sort.now ∷ sorts_in sorts.now) }
-{
-    let inner = copy_sorts(alloc, sorts)?;
-    pushed(inner, sort.copy(alloc)?)
 }
 
 /// The sort of a match.

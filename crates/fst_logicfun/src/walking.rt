@@ -15,9 +15,10 @@ ghost use Rattle.fst_program.specs.Texts.{Prog};
 ghost use Rattle.fst_terms.specs.Terms.{plain_term, t_unit};
 
 use crate::branch_turns::{if_turn, match_turn};
-use crate::call_turns::{bind_turn, call_turn, lift_turn, return_turn};
+use crate::call_turns::call_turn;
 use crate::copying::copy_terms;
 use crate::definition_turns::{copy_header, definition_turn};
+use crate::header_turns::{bind_turn, lift_turn, return_turn};
 use crate::turns::{assert_turn, let_turn, reflect_turn, reify_turn, ret_turn};
 use crate::ways::{At, End, Next, Rest, Text, Turn, Turned};
 use fst_base::{Box, OutOfMemory, Seq, Sort, boxed, one};
@@ -124,6 +125,7 @@ fn then_ends(
     let firsts = ends(alloc, levels, program, sorts, first)?;
     ends_after(alloc, levels, program, sorts, firsts.as_slice(), rest)
 }
+
 /// The ends of these texts.
 #[cycle(ends)]
 fn ends_of(alloc: Global, levels: u64, program: &Program, sorts: &[Sort], ways: &[Next]) -> Ended

@@ -4,7 +4,7 @@ use Rattle.fst_base.specs.Sorts.{plain_sort}
 use Rattle.fst_terms.specs.Formulas.{sort_of}
 use Rattle.fst_logicfun.specs.Parts.{sorts_in}
 use Rattle.fst_logicfun.proofs.TurnLemmas.{sorts-by}
-use Rattle.fst_logicfun.proofs.call_turns.sorts_of.Goals as goal
+use Rattle.fst_logicfun.proofs.header_turns.sorts_of.Goals as goal
 
 pub returns : goal.returns
 returns c =
