@@ -33,14 +33,14 @@ module _ (m : Fms) where
   abbrev f : Flt
   f = number_all m
 
-  literals-numbered : Includes literals f.terms
+  pub literals-numbered : Includes literals f.terms
   literals-numbered = right (flat_map (component_pair (sorts m)) (subterms f.atoms)) literals (firsts-include (subterms f.atoms) (flat_map (component_pair (sorts m)) (subterms f.atoms) ++ literals))
     where
       right : (ts us : List Tm) → Includes (ts ++ us) f.terms → Includes us f.terms
       right [] us h = h
       right (t ∷ ts) us h = right ts us h.1
 
-  nth-numbered : (t : Tm) (k : ℕ) → IsNumbered f t → IsNumbered f (get_or (listed (args_of t)) k t_unit)
+  pub nth-numbered : (t : Tm) (k : ℕ) → IsNumbered f t → IsNumbered f (get_or (listed (args_of t)) k t_unit)
   nth-numbered t k h = go (listed (args_of t)) k (all-at (ArgsAmong f.terms) f.terms t (numbered-closed (sorts m) f.atoms) h)
     where
       go : (us : List Tm) (k : ℕ) → Includes us f.terms → IsNumbered f (get_or us k t_unit)
@@ -48,7 +48,7 @@ module _ (m : Fms) where
       go (u ∷ us) zero i = i.0
       go (u ∷ us) (suc k) i = go us k i.1
 
-  atom-numbered : (a : ℕ) (t : Tm) → at_number f.atoms a ≡ Some t → IsNumbered f t
+  pub atom-numbered : (a : ℕ) (t : Tm) → at_number f.atoms a ≡ Some t → IsNumbered f t
   atom-numbered a t h = go f.atoms (number-among f.atoms a t h) (atoms-numbered (sorts m) f.atoms)
     where
       head-in : (u : Tm) (us ws : List Tm) → Includes (parts_of u ++ us) ws → IsTrue (is_among u ws)
@@ -69,7 +69,7 @@ module _ (m : Fms) where
           by ih true q w = subst (IsNumbered f) (sym ((same_term-decides t u).0 q)) (head-in u (parts_of_each us) f.terms i)
           by ih false q w = ih w
 
-  made-sides : (a : ℕ) (t : Tm) → at_number f.atoms a ≡ Some t → IsNumbered f (arg_of t) × IsNumbered f (rest_of t)
+  pub made-sides : (a : ℕ) (t : Tm) → at_number f.atoms a ≡ Some t → IsNumbered f (arg_of t) × IsNumbered f (rest_of t)
   made-sides a t h = let n = atom-numbered a t h in (nth-numbered t 0 n, nth-numbered t 1 n)
 
 pub sides-numbered : (Applies : (k : ℕ) → List Srt → (S : Srt) → Type 0) (f : Flt) → IsFlat Applies f → (a : ℕ) (t : Tm) → at_number f.atoms a ≡ Some t → IsNumbered f (arg_of t) × IsNumbered f (rest_of t)

@@ -13,3 +13,8 @@ pub mod ArenaLemmas
 pub mod PlainForms
 pub mod TrailLemmas
 pub mod SideLemmas
+pub mod KeptLemmas
+pub mod ShiftLemmas
+pub mod StepRowLemmas
+pub mod SolvedLemmas
+pub mod FormedLemmas

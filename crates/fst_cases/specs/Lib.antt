@@ -7,3 +7,5 @@ pub mod Knowing
 pub mod Arenas
 pub mod Trails
 pub mod Sides
+pub mod Closings
+pub mod Formed
