@@ -18,3 +18,4 @@ pub mod ShiftLemmas
 pub mod StepRowLemmas
 pub mod SolvedLemmas
 pub mod FormedLemmas
+pub mod SearchLemmas

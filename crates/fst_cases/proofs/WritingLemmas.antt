@@ -1,5 +1,5 @@
 -- The lines of a refutation, written by a stack of refutations.
-use Rattle.std.proofs.Common.{◌≡◌, ◌⊎◌, inl, inr, ℕ, zero, suc, ◌+◌, ◌<◌, ◌≤◌, List, [], ◌∷◌, ◌++◌, length, refl, sym, ap, ◌∙◌, subst, arith, append_assoc}
+use Rattle.std.proofs.Common.{◌≡◌, ◌⊎◌, inl, inr, ℕ, zero, suc, ◌+◌, ◌<◌, ◌≤◌, List, [], ◌∷◌, ◌++◌, length, refl, sym, ap, ap₂, ◌∙◌, subst, arith, append_assoc}
 use Rattle.std.proofs.lemmas.Bool.{cases_lt}
 use Rattle.std.proofs.lemmas.List.{same_from_push, append-nil}
 use Rattle.fst_cert.specs.declared.line.Line.{Line}
@@ -199,3 +199,13 @@ module _ (ns : List Refutation) where
           some : (js : List ℕ) → length (js ++ j ∷ []) ≡ length {A = ℕ} [] → ⊥
           some [] h = omega (arith, h)
           some (k ∷ js) h = omega (arith, h)
+
+  -- a refutation stands for one list of lines
+  pub writes-once : (i : ℕ) (ls ks : List Line) → Writes ns i ls → Writes ns i ks → ls ≡ ks
+  writes-once i ls ks (writes_end j js h q) w = sym (writes-end i ks js w q)
+  writes-once i ls ks (writes_split j a l r xs ys h q m n u v) w =
+      let b = writes-split i a l r ks w q in
+      ap₂ (λ x y. line.Split a ∷ x ++ y) (writes-once l xs b.first u b.first_written) (writes-once r ys b.second v b.second_written) ∙ sym b.are
+  writes-once i ls ks (writes_order j a l r xs ys h q m n u v) w =
+      let b = writes-order i a l r ks w q in
+      ap₂ (λ x y. line.Order a ∷ x ++ y) (writes-once l xs b.first u b.first_written) (writes-once r ys b.second v b.second_written) ∙ sym b.are

@@ -9,3 +9,4 @@ pub mod Trails
 pub mod Sides
 pub mod Closings
 pub mod Formed
+pub mod Verdicts

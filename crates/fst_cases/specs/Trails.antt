@@ -122,3 +122,9 @@ closes_by m used old new a s node at = Splits old new a s.on_true node at
 
 abbrev pub closes : (old new : List Refutation) → (a : ℕ) → Step → (used : Mark) → (node at : ℕ) → Type 0
 closes old new a s used node at = closes_by s.mark used old new a s node at
+
+-- all atoms are marked, and no more branches are left than before
+pub record Filled (f : Flt) (ns : List Refutation) (before after : List Step) : Type 0 where
+  pub trail : Trail f ns after
+  pub full : length after ≡ length f.atoms
+  pub fewer : branches (length f.atoms) (marks_in after) ≤ branches (length f.atoms) (marks_in before)

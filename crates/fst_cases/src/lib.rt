@@ -5,8 +5,10 @@ mod arena;
 mod known;
 mod laws;
 mod merging;
+mod search;
 mod sides;
 mod trail;
+mod verdict;
 mod writing;
 
 pub use laws::{clash_law, nothing_law};

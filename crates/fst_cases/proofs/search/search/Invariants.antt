@@ -1,0 +1,10 @@
+use Rattle.std.proofs.Common.{length}
+use Rattle.fst_terms.specs.Flats.{plain_flat}
+use Rattle.fst_cases.specs.Trails.{Trail, branches, marks_in}
+use Rattle.fst_cases.proofs.search.search.Given as goal
+
+abbrev pub invariant-loop-trail : goal.invariant-loop-trail
+invariant-loop-trail g l = Trail (plain_flat l.flat) l.arena l.trail
+
+abbrev pub decreases-loop-trail : goal.decreases-loop-trail
+decreases-loop-trail g l = branches (length (plain_flat l.flat).atoms) (marks_in l.trail)
