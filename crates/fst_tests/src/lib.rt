@@ -28,6 +28,8 @@ mod programs;
 #[cfg(test)]
 mod reading;
 #[cfg(test)]
+mod resolved;
+#[cfg(test)]
 mod rows;
 #[cfg(test)]
 mod terms;
@@ -35,5 +37,7 @@ mod terms;
 mod tokens;
 #[cfg(test)]
 mod trees;
+#[cfg(test)]
+mod uses;
 #[cfg(test)]
 mod values;
