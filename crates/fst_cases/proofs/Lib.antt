@@ -19,3 +19,4 @@ pub mod StepRowLemmas
 pub mod SolvedLemmas
 pub mod FormedLemmas
 pub mod SearchLemmas
+pub mod CitedLemmas

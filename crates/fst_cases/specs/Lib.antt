@@ -10,3 +10,4 @@ pub mod Sides
 pub mod Closings
 pub mod Formed
 pub mod Verdicts
+pub mod Cited

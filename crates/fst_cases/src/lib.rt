@@ -2,6 +2,7 @@
 #![tactic(auto)]
 
 mod arena;
+mod cores;
 mod known;
 mod laws;
 mod merging;

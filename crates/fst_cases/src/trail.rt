@@ -89,7 +89,7 @@ fn closed(
 }
 
 /// The number of the atom at this place, from 1.
-fn number(at: usize) -> Result<u32, OutOfMemory>
+pub fn number(at: usize) -> Result<u32, OutOfMemory>
     ensures { IfOk result (λ number. number ≡ at + 1) }
 {
     match u32::try_from(at) {
