@@ -13,7 +13,7 @@ use Rattle.fst_cases.specs.Cores.{used}
 use Rattle.fst_cases.specs.declared.cores.Want.{Want}
 use Rattle.fst_cases.specs.declared.cores.Want.TheVariants as want
 use Rattle.fst_cases.specs.declared.known.Known.{Known}
-use Rattle.fst_cases.specs.Cited.{rank_of, or_whole, want_at, Read, AllRead, mark_as, chosen, known_as, entry_at, put_known, core_list}
+use Rattle.fst_cases.specs.Cited.{rank_of, or_whole, want_at, Read, AllRead, mark_as, chosen, known_as, entry_at, put_known, core_list, IsCore}
 use Rattle.fst_cases.specs.Closings.{Kept, AllKept}
 use Rattle.fst_cases.specs.Knowing.{Falls, look_of}
 use Rattle.fst_cases.specs.Refuting.{Within}
@@ -185,3 +185,12 @@ module _ (ws : List Want) (ms : List Mark) where
     pub lines-kept : (ls : List Line) → AllRead ws ls → AllKept (look_of (core_list ws ms (length ms))) (marks_of ms) ls
     lines-kept [] h = tt
     lines-kept (l ∷ ls) h = (line-kept l h.0, lines-kept ls h.1)
+
+pub core-is : (ws : List Want) (ms : List Mark) (core : List Known) (es rs : List Line) (v : Line) → length ws ≡ length ms → core ≡ core_list ws ms (length ms) → AllRead ws es → AllRead ws rs → Read ws v → IsCore ms core es rs v
+core-is ws ms core es rs v n e h k l = subst (λ ks. IsCore ms ks es rs v) (sym e) (record {
+  falls = core-falls ws ms (length ms);
+  within = core-within ws ms;
+  equations_kept = lines-kept ws ms n es h;
+  rows_kept = lines-kept ws ms n rs k;
+  verdict_kept = line-kept ws ms n v l;
+})

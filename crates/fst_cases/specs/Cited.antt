@@ -1,8 +1,11 @@
 -- The marks that lines read, by a note for each atom.
-use Rattle.std.specs.Prelude.{◌≡◌, ℕ, zero, suc, ◌+◌, ◌≤◌, Bool, true, false, List, [], ◌∷◌, ◌++◌, slice_get, Option, Some, None, option_map, ⊤}
+use Rattle.std.specs.Prelude.{◌≡◌, ℕ, zero, suc, ◌+◌, ◌≤◌, Bool, true, false, List, [], ◌∷◌, length, Option, Some, None, option_map, ⊤}
 use Rattle.fst_terms.specs.declared.flat.Mark.{Mark}
 use Rattle.fst_terms.specs.declared.flat.Mark.TheVariants as mark
-use Rattle.fst_terms.specs.Marks.{Marking, at_number}
+use Rattle.fst_terms.specs.Marks.{Marking, marks_of, at_number}
+use Rattle.fst_cases.specs.Closings.{Kept, AllKept}
+use Rattle.fst_cases.specs.Knowing.{Falls, look_of}
+use Rattle.fst_cases.specs.Refuting.{Within}
 use Rattle.fst_cert.specs.Proving.{on}
 use Rattle.fst_cert.specs.declared.line.Line.{Line}
 use Rattle.fst_cert.specs.declared.line.Line.TheVariants as line
@@ -65,3 +68,11 @@ put_known (Some k) ks = k ∷ ks
 abbrev pub core_list : List Want → List Mark → ℕ → List Known
 core_list ws ms zero = []
 core_list ws ms (suc n) = put_known (entry_at ws ms n) (core_list ws ms n)
+
+-- marks of a branch with which these lines hold that hold in it
+pub record IsCore (ms : List Mark) (core : List Known) (equations rows : List Line) (verdict : Line) : Type 0 where
+  pub falls : Falls (length ms + 1) core
+  pub within : Within (look_of core) (marks_of ms)
+  pub equations_kept : AllKept (look_of core) (marks_of ms) equations
+  pub rows_kept : AllKept (look_of core) (marks_of ms) rows
+  pub verdict_kept : Kept (look_of core) (marks_of ms) verdict

@@ -1,7 +1,7 @@
 //! The marks that the lines of a closing read.
 
 ghost use Rattle.std.specs.Prelude.{◌≡◌, ◌<◌, ◌≤◌, ℕ, length, IfOk};
-ghost use Rattle.fst_cases.specs.Cited.{AllRead, Read, core_list, entry_at, rank_of, want_at, wanted_by};
+ghost use Rattle.fst_cases.specs.Cited.{AllRead, IsCore, Read, core_list, entry_at, rank_of, want_at, wanted_by};
 
 use crate::known::Known;
 use crate::trail::number;
@@ -19,10 +19,10 @@ pub enum Want {
 }
 
 /// Nothing is read of so many atoms.
-pub fn nothing(alloc: Global, count: usize) -> Result<Seq<Want>, OutOfMemory>
-    ensures { IfOk result (λ wants. length wants ≡ count) }
+fn nothing(alloc: Global, count: usize) -> Result<Vec<Want>, OutOfMemory>
+    ensures { IfOk result (λ wants. length wants.items ≡ count) }
 {
-    let mut wants = Seq::new(alloc);
+    let mut wants = Vec::new(alloc);
     for _at in 0..count {
         wants.push(Want::Nothing)?;
     }
@@ -42,7 +42,7 @@ fn note(wants: &mut [Want], atom: u32, whole: bool)
 }
 
 /// What this line reads is read.
-pub fn want_line(wants: &mut [Want], line: &Line)
+fn want_line(wants: &mut [Want], line: &Line)
     ensures kept { (b : ℕ) → rank_of (want_at wants.old b) ≤ rank_of (want_at wants.new b) }
     ensures read { Read wants.new line.now }
 {
@@ -55,7 +55,7 @@ pub fn want_line(wants: &mut [Want], line: &Line)
 }
 
 /// What these lines read is read.
-pub fn want_lines(wants: &mut [Want], lines: &[Line])
+fn want_lines(wants: &mut [Want], lines: &[Line])
     ensures kept { (b : ℕ) → rank_of (want_at wants.old b) ≤ rank_of (want_at wants.new b) }
     ensures read { AllRead wants.new lines.now }
 {
@@ -82,8 +82,8 @@ fn entry(wants: &[Want], marks: &[Mark], at: usize) -> Result<Option<Known>, Out
     })
 }
 
-/// The marks that are read.
-pub fn core_of(alloc: Global, wants: &[Want], marks: &[Mark]) -> Result<Seq<Known>, OutOfMemory>
+/// The marks that are read, by falling atoms.
+fn core_of(alloc: Global, wants: &[Want], marks: &[Mark]) -> Result<Seq<Known>, OutOfMemory>
     requires { length wants.now ≡ length marks.now }
     ensures { IfOk result (λ core. core ≡ core_list wants.now marks.now (length marks.now)) }
 {
@@ -94,4 +94,36 @@ pub fn core_of(alloc: Global, wants: &[Want], marks: &[Mark]) -> Result<Seq<Know
         }
     }
     Ok(core)
+}
+
+/// The marks that the lines of a closing read, beside notes for each atom.
+fn core_noted(
+    alloc: Global,
+    marks: &[Mark],
+    wants: &mut [Want],
+    equations: &[Line],
+    rows: &[Line],
+    verdict: &Line,
+) -> Result<Seq<Known>, OutOfMemory>
+    requires { length wants.old ≡ length marks.now }
+    ensures { IfOk result (λ core. IsCore marks.now core equations.now rows.now verdict.now) }
+{
+    want_lines(wants, equations);
+    want_lines(wants, rows);
+    want_line(wants, verdict);
+    core_of(alloc, wants, marks)
+}
+
+/// The marks that the lines of a closing read.
+pub fn core_by(
+    alloc: Global,
+    marks: &[Mark],
+    equations: &[Line],
+    rows: &[Line],
+    verdict: &Line,
+) -> Result<Seq<Known>, OutOfMemory>
+    ensures { IfOk result (λ core. IsCore marks.now core equations.now rows.now verdict.now) }
+{
+    let mut wants = nothing(alloc, marks.len())?;
+    core_noted(alloc, marks, wants.as_mut_slice(), equations, rows, verdict)
 }

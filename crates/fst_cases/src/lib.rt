@@ -2,6 +2,7 @@
 #![tactic(auto)]
 
 mod arena;
+mod closings;
 mod cores;
 mod known;
 mod laws;
