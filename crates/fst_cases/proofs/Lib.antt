@@ -20,3 +20,4 @@ pub mod SolvedLemmas
 pub mod FormedLemmas
 pub mod SearchLemmas
 pub mod CitedLemmas
+pub mod RoleLemmas

@@ -11,3 +11,4 @@ pub mod Closings
 pub mod Formed
 pub mod Verdicts
 pub mod Cited
+pub mod Roles

@@ -7,6 +7,7 @@ mod cores;
 mod known;
 mod laws;
 mod merging;
+mod roles;
 mod search;
 mod sides;
 mod trail;
