@@ -5,7 +5,7 @@ use Rattle.std.proofs.lemmas.List.{take_more}
 use Rattle.fst_terms.specs.Flats.{truth_of}
 use Rattle.fst_terms.specs.declared.flat.Mark.{Mark}
 use Rattle.fst_terms.specs.declared.flat.Mark.TheVariants as mark
-use Rattle.fst_terms.specs.Marks.{Marking, marks_of, at_number}
+use Rattle.fst_terms.specs.Marks.{marks_of, at_number}
 use Rattle.fst_cert.specs.Proving.{on, same_mark}
 use Rattle.fst_cert.specs.declared.line.Line.{Line}
 use Rattle.fst_cert.specs.declared.line.Line.TheVariants as line

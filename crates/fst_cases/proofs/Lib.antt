@@ -21,3 +21,4 @@ pub mod FormedLemmas
 pub mod SearchLemmas
 pub mod CitedLemmas
 pub mod RoleLemmas
+pub mod RefuteLemmas

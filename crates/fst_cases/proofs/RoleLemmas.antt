@@ -8,7 +8,7 @@ use Rattle.fst_terms.specs.Flats.{Flt, truth_of}
 use Rattle.fst_terms.specs.declared.flat.Mark.{Mark}
 use Rattle.fst_terms.specs.declared.flat.Mark.TheVariants as mark
 use Rattle.fst_terms.specs.Skeletons.{arg_of, rest_of}
-use Rattle.fst_terms.specs.Marks.{Marking, marks_of, at_number, is_equation, is_at_most}
+use Rattle.fst_terms.specs.Marks.{marks_of, is_equation, is_at_most}
 use Rattle.fst_cert.specs.declared.line.Line.{Line}
 use Rattle.fst_cert.specs.declared.line.Line.TheVariants as line
 use Rattle.fst_cert.specs.Proving.{on, only_if, Eqn, eqn, equation_of_mark, equation_by}

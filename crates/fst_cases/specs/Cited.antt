@@ -1,7 +1,6 @@
 -- The marks that lines read, by a note for each atom.
-use Rattle.std.specs.Prelude.{◌≡◌, ℕ, zero, suc, ◌+◌, ◌≤◌, Bool, true, false, List, [], ◌∷◌, length, Option, Some, None, option_map, ⊤}
+use Rattle.std.specs.Prelude.{ℕ, zero, suc, ◌+◌, ◌≤◌, Bool, true, false, List, [], ◌∷◌, length, Option, Some, None, option_map, ⊤}
 use Rattle.fst_terms.specs.declared.flat.Mark.{Mark}
-use Rattle.fst_terms.specs.declared.flat.Mark.TheVariants as mark
 use Rattle.fst_terms.specs.Marks.{Marking, marks_of, at_number}
 use Rattle.fst_cases.specs.Closings.{Kept, AllKept}
 use Rattle.fst_cases.specs.Knowing.{Falls, look_of}

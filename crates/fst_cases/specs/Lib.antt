@@ -12,3 +12,4 @@ pub mod Formed
 pub mod Verdicts
 pub mod Cited
 pub mod Roles
+pub mod Clashes

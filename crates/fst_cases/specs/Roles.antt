@@ -1,12 +1,11 @@
 -- How congruence reads atoms, and the equations that marks give.
-use Rattle.std.specs.Prelude.{◌≡◌, ℕ, zero, suc, ◌-◌, Bool, true, false, List, [], ◌∷◌, ◌++◌, length, get_or, Option, Some, None, Contains}
+use Rattle.std.specs.Prelude.{◌≡◌, ℕ, zero, suc, true, false, List, [], ◌∷◌, ◌++◌, length, get_or, Option, Some, None, Contains}
 use Rattle.fst_terms.specs.Terms.{Tm, t_bool}
 use Rattle.fst_terms.specs.Flats.{Flt}
 use Rattle.fst_terms.specs.declared.flat.Mark.{Mark}
 use Rattle.fst_terms.specs.declared.flat.Mark.TheVariants as mark
 use Rattle.fst_terms.specs.Skeletons.{arg_of, rest_of}
 use Rattle.fst_terms.specs.Marks.{Marking, at_number, is_equation, is_at_most}
-use Rattle.fst_cert.specs.declared.line.Line.{Line}
 use Rattle.fst_cert.specs.declared.line.Line.TheVariants as line
 use Rattle.fst_cert.specs.Proving.{eqn, equation_by}
 use Rattle.fst_congruence.specs.declared.equation.Equation.{Equation}

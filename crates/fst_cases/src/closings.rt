@@ -13,7 +13,7 @@ use fst_cert::Line;
 use fst_terms::Mark;
 use std::alloc::Global;
 
-fn count(lines: &[Line]) -> Result<u32, OutOfMemory>
+pub fn count(lines: &[Line]) -> Result<u32, OutOfMemory>
     ensures { IfOk result (λ count. count ≡ length lines.now) }
 {
     match u32::try_from(lines.len()) {

@@ -76,7 +76,11 @@ fn entry(wants: &[Want], marks: &[Mark], at: usize) -> Result<Option<Known>, Out
         Want::Nothing => None,
         Want::Truth => Some(Known {
             atom,
-            mark: if mark == Mark::True { Mark::True } else { Mark::False },
+            mark: if mark == Mark::True {
+                Mark::True
+            } else {
+                Mark::False
+            },
         }),
         Want::Whole => Some(Known { atom, mark }),
     })

@@ -2,6 +2,7 @@
 #![tactic(auto)]
 
 mod arena;
+mod clashes;
 mod closings;
 mod cores;
 mod known;

@@ -34,9 +34,20 @@ fn sides(roles: &Roles, role: Role, mark: Mark) -> Option<(u32, u32)>
     ensures { result ≡ given_of roles.now role mark }
 {
     match role {
-        Role::Equation(left, right) => if mark == Mark::True { Some((left, right)) } else { None },
+        Role::Equation(left, right) => if mark == Mark::True {
+            Some((left, right))
+        } else {
+            None
+        },
         Role::Order => None,
-        Role::Truth(term) => Some((term, if mark == Mark::True { roles.yes } else { roles.no })),
+        Role::Truth(term) => Some((
+            term,
+            if mark == Mark::True {
+                roles.yes
+            } else {
+                roles.no
+            },
+        )),
     }
 }
 

@@ -1,4 +1,4 @@
-use Rattle.std.proofs.Common.{[], length, sym, ap, subst, ◌∙◌}
+use Rattle.std.proofs.Common.{[], length, sym, subst}
 use Rattle.fst_cert.specs.declared.line.Line.{Line}
 use Rattle.std.proofs.Common.{List}
 use Rattle.fst_terms.specs.Marks.{marks_of}
@@ -15,8 +15,10 @@ returns c = λ f h.
     subst (λ (rs : List Line). IsCore c.args.marks.now c.in_ok-core.core c.args.equations rs c.args.verdict) c.as_slice-2.ensures
     (subst (λ (es : List Line). IsCore c.args.marks.now c.in_ok-core.core es c.as_slice-2.result.now c.args.verdict) c.as_slice.ensures c.in_ok-core.ensures) in (
       core.falls,
-      (core.within,
-      subst (IsRefuted f [] (length c.args.marks.now) (look_of c.in_ok-core.core)) (sym c.in_ok-lines.ensures)
-      (refuted-close f [] (length c.args.marks.now) (look_of c.in_ok-core.core) c.args.equations c.args.rows c.args.verdict
-      (closes-kept f (look_of c.in_ok-core.core) (marks_of c.args.marks.now) c.args.equations c.args.rows c.args.verdict core.equations_kept core.rows_kept core.verdict_kept h))),
+      (
+        core.within,
+        subst (IsRefuted f [] (length c.args.marks.now) (look_of c.in_ok-core.core)) (sym c.in_ok-lines.ensures)
+            (refuted-close f [] (length c.args.marks.now) (look_of c.in_ok-core.core) c.args.equations c.args.rows c.args.verdict
+            (closes-kept f (look_of c.in_ok-core.core) (marks_of c.args.marks.now) c.args.equations c.args.rows c.args.verdict core.equations_kept core.rows_kept core.verdict_kept h)),
+      ),
     ))

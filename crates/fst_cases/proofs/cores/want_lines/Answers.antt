@@ -1,5 +1,4 @@
 use Rattle.std.proofs.Common.{arith}
-use Rattle.std.proofs.lemmas.List.{get_or_read}
 use Rattle.fst_cases.proofs.CitedLemmas.{lines-more}
 use Rattle.fst_cases.proofs.cores.want_lines.Goals as goal
 
