@@ -16,7 +16,7 @@ use Rattle.fst_program.specs.Plain.{plain_fun, plain_param}
 use Rattle.fst_program.specs.Texts.{Fn, Prog, if_there, fun_at}
 use Rattle.fst_program.specs.declared.fun.Fun.{Fun}
 use Rattle.fst_program.specs.declared.fun.Param.{Param}
-use Rattle.fst_logicfun.specs.Parts.{scope_of}
+use Rattle.fst_scopes.specs.Scopes.{terms_for}
 use Rattle.fst_logicfun.proofs.ClearLemmas.{scope-push}
 
 -- ---- the last argument
@@ -45,7 +45,7 @@ last-term ts n d h e = ap (λ n. plain_term (get_or ts n d)) e ∙ go ts h
 
 -- those of the parameters and arguments from one place on
 abbrev pub refined_from : (ps : List Param) (ts : List Term) (at : ℕ) → List Tm
-refined_from ps ts at = refinements (map plain_param (drop at ps)) (map plain_term (drop at ts)) (scope_of (take at ts))
+refined_from ps ts at = refinements (map plain_param (drop at ps)) (map plain_term (drop at ts)) (terms_for (take at ts))
 
 drop-item : {X : Type 0} (xs : List X) (i : ℕ) (d : X) → i < length xs → drop i xs ≡ get_or xs i d ∷ drop (suc i) xs
 drop-item [] i d h = absurd (omega (arith, h))
@@ -64,25 +64,25 @@ drop-all (x ∷ xs) zero h = absurd (omega (arith, h))
 drop-all (x ∷ xs) (suc i) h = drop-all xs i (omega (arith, h))
 
 pub refined-next : (ps : List Param) (ts upto : List Term) (i n : ℕ) (p : Param) (t : Term) → i < length ps → i < length ts → p ≡ get_or ps i p → n ≡ i + 1 → upto ≡ take n ts
-    → refined_from ps ts i ≡ given (option_map plain_term p.refine) (scope_of upto) ++ refined_from ps ts (i + 1)
+    → refined_from ps ts i ≡ given (option_map plain_term p.refine) (terms_for upto) ++ refined_from ps ts (i + 1)
 refined-next ps ts upto i n p t hp ht is e f =
     let k : i + 1 ≡ suc i = omega arith in
     let us : upto ≡ take (suc i) ts = f ∙ ap (λ n. take n ts) (e ∙ k) in
     let x : Term = get_or ts i t in
-    let inner : scope_of (take (suc i) ts) ≡ plain_term x ∷ scope_of (take i ts) = ap scope_of (take-item ts i t ht) ∙ scope-push (take i ts) x in
-    ap₂ (λ qs vs. refinements (map plain_param qs) (map plain_term vs) (scope_of (take i ts))) (drop-item ps i p hp ∙ ap (λ p. p ∷ drop (suc i) ps) (sym is)) (drop-item ts i t ht)
+    let inner : terms_for (take (suc i) ts) ≡ plain_term x ∷ terms_for (take i ts) = ap terms_for (take-item ts i t ht) ∙ scope-push (take i ts) x in
+    ap₂ (λ qs vs. refinements (map plain_param qs) (map plain_term vs) (terms_for (take i ts))) (drop-item ps i p hp ∙ ap (λ p. p ∷ drop (suc i) ps) (sym is)) (drop-item ts i t ht)
     ∙ ap (λ us. given (option_map plain_term p.refine) us ++ refinements (map plain_param (drop (suc i) ps)) (map plain_term (drop (suc i) ts)) us) (sym inner)
-    ∙ ap₂ (λ us n. given (option_map plain_term p.refine) (scope_of us) ++ refined_from ps ts n) (sym us) (sym k)
+    ∙ ap₂ (λ us n. given (option_map plain_term p.refine) (terms_for us) ++ refined_from ps ts n) (sym us) (sym k)
 
 pub refined-past : (ps : List Param) (ts : List Term) (i : ℕ) → length ts ≤ i → refined_from ps ts i ≡ []
-refined-past ps ts i h = ap (λ ts'. refinements (map plain_param (drop i ps)) (map plain_term ts') (scope_of (take i ts))) (drop-all ts i h) ∙ go (drop i ps)
+refined-past ps ts i h = ap (λ ts'. refinements (map plain_param (drop i ps)) (map plain_term ts') (terms_for (take i ts))) (drop-all ts i h) ∙ go (drop i ps)
   where
-    go : (ps : List Param) → refinements (map plain_param ps) [] (scope_of (take i ts)) ≡ []
+    go : (ps : List Param) → refinements (map plain_param ps) [] (terms_for (take i ts)) ≡ []
     go [] = refl
     go (p ∷ ps) = refl
 
 pub refined-end : (ps : List Param) (ts : List Term) (i : ℕ) → length ps ≤ i → refined_from ps ts i ≡ []
-refined-end ps ts i h = ap (λ ps. refinements (map plain_param ps) (map plain_term (drop i ts)) (scope_of (take i ts))) (drop-all ps i h)
+refined-end ps ts i h = ap (λ ps. refinements (map plain_param ps) (map plain_term (drop i ts)) (terms_for (take i ts))) (drop-all ps i h)
 
 -- one step of a list that grows while what is left shrinks
 pub grown : (made made' : List Tm) (now left left' whole : List Tm) → made' ≡ made ++ now → left ≡ now ++ left' → made ++ left ≡ whole → made' ++ left' ≡ whole
@@ -105,13 +105,13 @@ refined-done made left whole e h = sym (append-nil made) ∙ ap (λ ts. made ++ 
 
 -- the ensures under what is demanded, as the code makes it
 pub posted-by : (t : Term) (f : Fun) (gives : Term) (args : List Term) (input : Term) (ds dslice scope inner slice made : List Term) (t' x : Term)
-    → f.gives ≡ Some gives → map plain_term ds ≡ demands_of (plain_fun f) (map plain_term args) (plain_term input) → dslice ≡ ds → scope_of scope ≡ clause_terms f.effect (map plain_term args) (plain_term input)
-    → t' ≡ t → inner ≡ scope ++ t' ∷ [] → slice ≡ inner → plain_term x ≡ implies (joined (map plain_term dslice)) (put (scope_of slice) (plain_term gives)) → made ≡ x ∷ []
+    → f.gives ≡ Some gives → map plain_term ds ≡ demands_of (plain_fun f) (map plain_term args) (plain_term input) → dslice ≡ ds → terms_for scope ≡ clause_terms f.effect (map plain_term args) (plain_term input)
+    → t' ≡ t → inner ≡ scope ++ t' ∷ [] → slice ≡ inner → plain_term x ≡ implies (joined (map plain_term dslice)) (put (terms_for slice) (plain_term gives)) → made ≡ x ∷ []
     → map plain_term made ≡ posted (plain_term t) (plain_fun f) (map plain_term args) (plain_term input)
 posted-by t f gives args input ds dslice scope inner slice made t' x is d ds' c t'' i s e m =
     let D : List Tm = demands_of (plain_fun f) (map plain_term args) (plain_term input) in
     let C : List Tm = clause_terms f.effect (map plain_term args) (plain_term input) in
-    let us : scope_of slice ≡ plain_term t ∷ C = ap scope_of (s ∙ i) ∙ scope-push scope t' ∙ ap₂ (λ v vs. v ∷ vs) (ap plain_term t'') c in
+    let us : terms_for slice ≡ plain_term t ∷ C = ap terms_for (s ∙ i) ∙ scope-push scope t' ∙ ap₂ (λ v vs. v ∷ vs) (ap plain_term t'') c in
     ap (map plain_term) m ∙ ap (λ v. v ∷ []) (e ∙ ap₂ (λ qs vs. implies (joined qs) (put vs (plain_term gives))) (ap (map plain_term) ds' ∙ d) us)
     ∙ sym (ap (λ o. map (implies (joined D)) (given (option_map plain_term o) (plain_term t ∷ C))) is)
 

@@ -13,7 +13,8 @@ use Rattle.fst_terms.specs.declared.term.Term.TheVariants as T
 use Rattle.fst_terms.proofs.PlainLemmas.{plain-term-Prim, plain-term-App, plain-term-Let}
 use Rattle.fst_terms.proofs.FirstsLemmas.{listed-row}
 use Rattle.fst_terms.specs.Cleared.{cleared, all_cleared}
-use Rattle.fst_logicfun.specs.Parts.{parts_from, scope_of}
+use Rattle.fst_logicfun.specs.Parts.{parts_from}
+use Rattle.fst_scopes.specs.Scopes.{terms_for}
 
 -- ---- made terms
 
@@ -23,7 +24,7 @@ parts-from-Prim o m S ts us p t is e f =
 
 -- ---- scopes
 
-pub scope-push : (ts : List Term) (t : Term) → scope_of (ts ++ t ∷ []) ≡ plain_term t ∷ scope_of ts
+pub scope-push : (ts : List Term) (t : Term) → terms_for (ts ++ t ∷ []) ≡ plain_term t ∷ terms_for ts
 scope-push ts t = ap reverse (map-append plain_term ts (t ∷ [])) ∙ reverse-append (map plain_term ts) (plain_term t ∷ [])
 
 pub vars_from-step : (i l n : ℕ) → i + 1 ≡ l → l ≤ n → t_var i ∷ vars_from l (n - l) ≡ vars_from i (n - i)
@@ -52,9 +53,9 @@ clear-App-by us k S S' ts args vs t is s e f =
     plain-term-App k S' vs ∙ ap₂ (t_app k) (ap plain_sort s) (args-cleared us ts args vs e f) ∙ sym (ap (λ t. cleared us (plain_term t)) is ∙ ap (cleared us) (plain-term-App k S ts))
 
 pub clear-Let-by : (x : List ℕ) (t u t' u' w bound made : Term) (scope xs ys : List Term)
-    → w ≡ T.Let x t u → t' ≡ t → u' ≡ u → plain_term bound ≡ cleared (scope_of scope) (plain_term t') → xs ≡ scope → ys ≡ xs ++ bound ∷ []
-    → plain_term made ≡ cleared (scope_of ys) (plain_term u') → plain_term made ≡ cleared (scope_of scope) (plain_term w)
+    → w ≡ T.Let x t u → t' ≡ t → u' ≡ u → plain_term bound ≡ cleared (terms_for scope) (plain_term t') → xs ≡ scope → ys ≡ xs ++ bound ∷ []
+    → plain_term made ≡ cleared (terms_for ys) (plain_term u') → plain_term made ≡ cleared (terms_for scope) (plain_term w)
 clear-Let-by x t u t' u' w bound made scope xs ys is e f b k g h =
-    let inner : scope_of ys ≡ cleared (scope_of scope) (plain_term t) ∷ scope_of scope =
-    ap scope_of (g ∙ ap (λ xs. xs ++ bound ∷ []) k) ∙ scope-push scope bound ∙ ap (λ v. v ∷ scope_of scope) (b ∙ ap (λ t. cleared (scope_of scope) (plain_term t)) e) in
-    h ∙ ap₂ (λ us u. cleared us (plain_term u)) inner f ∙ sym (ap (λ t. cleared (scope_of scope) (plain_term t)) is ∙ ap (cleared (scope_of scope)) (plain-term-Let x t u))
+    let inner : terms_for ys ≡ cleared (terms_for scope) (plain_term t) ∷ terms_for scope =
+    ap terms_for (g ∙ ap (λ xs. xs ++ bound ∷ []) k) ∙ scope-push scope bound ∙ ap (λ v. v ∷ terms_for scope) (b ∙ ap (λ t. cleared (terms_for scope) (plain_term t)) e) in
+    h ∙ ap₂ (λ us u. cleared us (plain_term u)) inner f ∙ sym (ap (λ t. cleared (terms_for scope) (plain_term t)) is ∙ ap (cleared (terms_for scope)) (plain-term-Let x t u))

@@ -1,4 +1,4 @@
--- The plain tree of each variant of core text, for search; the sort of a match.
+-- The ends of a match, from the answers for its arms.
 use Rattle.std.proofs.Common.{◌≡◌, List, [], ◌∷◌, refl, sym, ap, ◌∙◌}
 use Rattle.fst_base.specs.declared.place.Pos.{Pos}
 use Rattle.fst_base.specs.Sorts.{Srt}
@@ -10,18 +10,10 @@ use Rattle.fst_program.specs.declared.comp.Comp.TheVariants as V
 use Rattle.fst_program.specs.Texts.{c_arm, c_match, Prog}
 use Rattle.fst_program.specs.Paths.{text_sort}
 use Rattle.fst_program.specs.Plain.{plain_comp}
-use Rattle.fst_program.proofs.PlainLemmas.{plain_arms}
+use Rattle.fst_program.proofs.PlainLemmas.{plain_arms, plain-comp-Ret, plain-comp-Let, plain-comp-Bind, plain-comp-GhostLet, plain-comp-Assert, plain-comp-If, plain-comp-Call, plain-comp-Reify, plain-comp-Reflect, plain-comp-Return, plain-comp-Lift, plain-comp-Match}
 use Rattle.fst_logicfun.specs.Ends.{End}
 use Rattle.fst_logicfun.specs.Turns.{arms_in, ends_at}
 use Rattle.fst_logicfun.specs.declared.ways.At.{At}
-use Rattle.fst_program.proofs.PlainLemmas.{plain-comp-Ret, plain-comp-Let, plain-comp-Bind, plain-comp-GhostLet, plain-comp-Assert, plain-comp-If, plain-comp-Call, plain-comp-Reify, plain-comp-Reflect, plain-comp-Return, plain-comp-Lift, plain-comp-Match}
-
-pub ruleset comp_variants = (plain-comp-Ret, plain-comp-Let, plain-comp-Bind, plain-comp-GhostLet, plain-comp-Assert, plain-comp-If, plain-comp-Call, plain-comp-Reify, plain-comp-Reflect, plain-comp-Return, plain-comp-Lift, plain-comp-Match)
-
-pub match-sort-by : (P : Prog) (Ss : List Srt) (x : Term) (p : Pos) (arms slice : List (Arm Comp)) (t : Comp) (made : Srt) → t ≡ V.Match x p arms → slice ≡ arms
-    → made ≡ text_sort P Ss (c_match (plain_term x) 0 (plain_arms slice)) → made ≡ text_sort P Ss (plain_comp t)
-match-sort-by P Ss x p arms slice t made is s e =
-    e ∙ ap (λ arms. text_sort P Ss (c_match (plain_term x) 0 (plain_arms arms))) s ∙ sym (ap (λ t. text_sort P Ss (plain_comp t)) is ∙ ap (text_sort P Ss) (plain-comp-Match x p arms))
 
 arms-in : (arms : List (Arm Comp)) → arms_in arms ≡ plain_arms arms
 arms-in [] = refl

@@ -14,7 +14,7 @@ use Rattle.fst_program.specs.Texts.{DmArms, d_arm, d_end, d_let, d_match}
 use Rattle.fst_program.specs.Plain.{plain_dm}
 use Rattle.fst_program.proofs.PlainLemmas.{plain-dm-Ret, plain-dm-Let, plain-dm-If, plain-dm-RunF, plain-dm-RunG, plain-dm-Match, plain_dm_arms}
 use Rattle.fst_logicfun.specs.Ends.{End, takings}
-use Rattle.fst_logicfun.specs.Parts.{scope_of, sorts_in}
+use Rattle.fst_scopes.specs.Scopes.{terms_for, sorts_in}
 use Rattle.fst_logicfun.specs.Turns.{dm_arm_ends_at, dm_arms_in, dm_ends_at, dm_first_con}
 use Rattle.fst_logicfun.specs.Ways.{family_of, plain_taken}
 use Rattle.fst_logicfun.specs.declared.ways.Taken as walked
@@ -38,12 +38,12 @@ family-at A B (d_arm c xs d more) = refl
 
 -- a match on a term, from the ways of its constructors
 pub match-by : (h : Header) (at : At) (x : Tm) (arms : DmArms) (u u1 u2 : Term) (S S1 : Sort) (first : Option Con) (ways slice : List walked.Taken) (made : List End)
-    → plain_term u ≡ put (scope_of at.scope.now) (term_at (plain_sort h.a) (plain_sort h.b) x) → u1 ≡ u → plain_sort S ≡ sort_of (sorts_in at.sorts.now) (plain_term u1)
-    → first ≡ dm_first_con arms → S1 ≡ S → u2 ≡ u → map plain_taken ways ≡ takings (family_of first) (plain_sort S1) (plain_term u2) (scope_of at.hyps.now)
+    → plain_term u ≡ put (terms_for at.scope.now) (term_at (plain_sort h.a) (plain_sort h.b) x) → u1 ≡ u → plain_sort S ≡ sort_of (sorts_in at.sorts.now) (plain_term u1)
+    → first ≡ dm_first_con arms → S1 ≡ S → u2 ≡ u → map plain_taken ways ≡ takings (family_of first) (plain_sort S1) (plain_term u2) (terms_for at.hyps.now)
     → slice ≡ ways → made ≡ over (map plain_taken slice) (dm_arm_ends_at arms h at) → made ≡ dm_ends_at (d_match x arms) h at
 match-by h at x arms u u1 u2 S S1 first ways slice made e e1 s f s1 e2 w sl m =
-    let v : Tm = put (scope_of at.scope.now) (term_at (plain_sort h.a) (plain_sort h.b) x) in
-    let hs : List Tm = scope_of at.hyps.now in
+    let v : Tm = put (terms_for at.scope.now) (term_at (plain_sort h.a) (plain_sort h.b) x) in
+    let hs : List Tm = terms_for at.hyps.now in
     let sort : plain_sort S1 ≡ sort_of (sorts_in at.sorts.now) v = ap plain_sort s1 ∙ s ∙ ap (sort_of (sorts_in at.sorts.now)) (ap plain_term e1 ∙ e) in
     let cons : family_of first ≡ dm_family (dm_arms_at (plain_sort h.a) (plain_sort h.b) arms) = ap family_of f ∙ family-at (plain_sort h.a) (plain_sort h.b) arms in
     let taken : map plain_taken ways ≡ takings (dm_family (dm_arms_at (plain_sort h.a) (plain_sort h.b) arms)) (sort_of (sorts_in at.sorts.now) v) v hs =

@@ -8,7 +8,7 @@ use Rattle.fst_program.specs.Paths.{over, dm_at, text_sort}
 use Rattle.fst_program.specs.Plain.{plain_program}
 use Rattle.fst_program.specs.Texts.{Cm, Dm, Prog, c_return, return_text}
 use Rattle.fst_logicfun.specs.Ends.{End, dm_ends, ends}
-use Rattle.fst_logicfun.specs.Parts.{scope_of, sorts_in}
+use Rattle.fst_scopes.specs.Scopes.{terms_for, sorts_in}
 use Rattle.fst_logicfun.specs.Turns.{Heads, ends_at, header_ends, next_sort, rest_ends, run_of, second_run, value_sort}
 use Rattle.fst_logicfun.specs.declared.ways.At.{At}
 use Rattle.fst_logicfun.specs.declared.ways.Header.{Header}
@@ -26,10 +26,10 @@ module _ (at : At) where
   Ss = sorts_in at.sorts.now
 
   abbrev us : List Tm
-  us = scope_of at.scope.now
+  us = terms_for at.scope.now
 
   abbrev hs : List Tm
-  hs = scope_of at.hyps.now
+  hs = terms_for at.hyps.now
 
   pub value-sort-by : (c : Cm) (sorts slice : List Sort) (S : Srt) → sorts_in sorts ≡ map (sort_of Ss) us → slice ≡ sorts → S ≡ text_sort P (sorts_in slice) c → S ≡ value_sort c at
   value-sort-by c sorts slice S e s h = h ∙ ap (λ Ts. text_sort P (sorts_in Ts) c) s ∙ ap (λ Ts. text_sort P Ts c) e

@@ -1,4 +1,3 @@
-pub mod PlainForms
 pub mod ClearLemmas
 pub mod PutLemmas
 pub mod BuildingLemmas
@@ -7,7 +6,6 @@ pub mod ApplicationLemmas
 pub mod RoundLemmas
 pub mod EndLemmas
 pub mod DmForms
-pub mod SortLemmas
 pub mod WayLemmas
 pub mod CompForms
 pub mod TurnLemmas

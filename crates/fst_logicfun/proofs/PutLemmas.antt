@@ -10,7 +10,7 @@ use Rattle.fst_terms.specs.Formulas.{make, put, puts}
 use Rattle.fst_terms.specs.declared.term.Term.{Term}
 use Rattle.fst_terms.specs.declared.term.Term.TheVariants as T
 use Rattle.fst_terms.proofs.PlainLemmas.{plain-term-Prim, plain-term-App}
-use Rattle.fst_logicfun.specs.Parts.{scope_of}
+use Rattle.fst_scopes.specs.Scopes.{terms_for}
 use Rattle.fst_logicfun.proofs.ClearLemmas.{scope-push}
 
 pub put-row : (us : List Tm) (ts : List Term) → row (map (λ t. put us (plain_term t)) ts) ≡ puts us (plain_terms ts)
@@ -41,6 +41,6 @@ pub map-map : (f : Tm → Tm) (ts : List Term) → map (λ t. f (plain_term t)) 
 map-map f [] = refl
 map-map f (t ∷ ts) = ap (λ us. f (plain_term t) ∷ us) (map-map f ts)
 
-pub scope-under : (ts rs inner : List Term) (v : Term) → map plain_term rs ≡ map (λ t. shift 0 1 (plain_term t)) ts → inner ≡ rs ++ v ∷ [] → plain_term v ≡ t_var 0 → scope_of inner ≡ t_var 0 ∷ map (shift 0 1) (scope_of ts)
+pub scope-under : (ts rs inner : List Term) (v : Term) → map plain_term rs ≡ map (λ t. shift 0 1 (plain_term t)) ts → inner ≡ rs ++ v ∷ [] → plain_term v ≡ t_var 0 → terms_for inner ≡ t_var 0 ∷ map (shift 0 1) (terms_for ts)
 scope-under ts rs inner v e f g =
-    ap scope_of f ∙ scope-push rs v ∙ ap₂ (λ v us. v ∷ us) g (ap reverse (e ∙ map-map (shift 0 1) ts) ∙ sym (map-reverse (shift 0 1) (map plain_term ts)))
+    ap terms_for f ∙ scope-push rs v ∙ ap₂ (λ v us. v ∷ us) g (ap reverse (e ∙ map-map (shift 0 1) ts) ∙ sym (map-reverse (shift 0 1) (map plain_term ts)))

@@ -16,7 +16,7 @@ use Rattle.fst_program.specs.Plain.{plain_program}
 use Rattle.fst_logicfun.specs.declared.ways.At.{At}
 use Rattle.fst_logicfun.specs.declared.ways.Header.{Header}
 use Rattle.fst_logicfun.specs.declared.ways.Next.{Next}
-use Rattle.fst_logicfun.specs.Parts.{scope_of, sorts_in}
+use Rattle.fst_scopes.specs.Scopes.{terms_for, sorts_in}
 use Rattle.fst_logicfun.specs.Turns.{arm_ends_at, dm_arm_ends_at, dm_taken_ends, first_run, next_ends, second_run, taken_ends}
 use Rattle.fst_logicfun.specs.Ends.{End, Turn, Taken, Run, turns, ends, arm_ends, dm_ends, dm_arm_ends}
 use Rattle.fst_logicfun.specs.Ways.{arm_of, bool_of, dm_arm_of}
@@ -153,21 +153,21 @@ module _ (at : At) where
 
   pub arm-some : (arms : CmArms) (c : Taken) (d : Cm) (made : List Next) (n : Next) → made ≡ n ∷ [] → next_ends AP ASs n ≡ taken_ends d at c → Some d ≡ arm_of arms c.con → over made (next_ends AP ASs) ≡ arm_ends_at arms at c
   arm-some arms c d made n e f g =
-      one-way made n _ e f ∙ ap (λ o. if_there o (λ d. taken_ends d at c) []) g ∙ sym (arm-by AP ASs arms c (scope_of at.scope.now) (plain_term at.input.now))
+      one-way made n _ e f ∙ ap (λ o. if_there o (λ d. taken_ends d at c) []) g ∙ sym (arm-by AP ASs arms c (terms_for at.scope.now) (plain_term at.input.now))
 
   pub arm-none : (arms : CmArms) (c : Taken) (made : List Next) → made ≡ [] → None ≡ arm_of arms c.con → over made (next_ends AP ASs) ≡ arm_ends_at arms at c
-  arm-none arms c made e g = ap (λ ms. over ms (next_ends AP ASs)) e ∙ ap (λ o. if_there o (λ d. taken_ends d at c) []) g ∙ sym (arm-by AP ASs arms c (scope_of at.scope.now) (plain_term at.input.now))
+  arm-none arms c made e g = ap (λ ms. over ms (next_ends AP ASs)) e ∙ ap (λ o. if_there o (λ d. taken_ends d at c) []) g ∙ sym (arm-by AP ASs arms c (terms_for at.scope.now) (plain_term at.input.now))
 
   module _ (h : Header) where
     pub dm-arm-some : (arms : DmArms) (c : Taken) (d : Dm) (made : List Next) (n : Next) → made ≡ n ∷ [] → next_ends AP ASs n ≡ dm_taken_ends d h at c → Some d ≡ dm_arm_of arms c.con → over made (next_ends AP ASs) ≡ dm_arm_ends_at arms h at c
     dm-arm-some arms c d made n e f g =
         one-way made n _ e f ∙ ap (λ o. if_there o (λ d. dm_taken_ends d h at c) []) g
-        ∙ sym (dm-arm-by AP ASs (first_run AP ASs h) (second_run AP ASs h) (plain_sort h.a) (plain_sort h.b) arms c (scope_of at.scope.now))
+        ∙ sym (dm-arm-by AP ASs (first_run AP ASs h) (second_run AP ASs h) (plain_sort h.a) (plain_sort h.b) arms c (terms_for at.scope.now))
 
     pub dm-arm-none : (arms : DmArms) (c : Taken) (made : List Next) → made ≡ [] → None ≡ dm_arm_of arms c.con → over made (next_ends AP ASs) ≡ dm_arm_ends_at arms h at c
     dm-arm-none arms c made e g =
         ap (λ ms. over ms (next_ends AP ASs)) e ∙ ap (λ o. if_there o (λ d. dm_taken_ends d h at c) []) g
-        ∙ sym (dm-arm-by AP ASs (first_run AP ASs h) (second_run AP ASs h) (plain_sort h.a) (plain_sort h.b) arms c (scope_of at.scope.now))
+        ∙ sym (dm-arm-by AP ASs (first_run AP ASs h) (second_run AP ASs h) (plain_sort h.a) (plain_sort h.b) arms c (terms_for at.scope.now))
 
 -- ---- the sorts of a scope
 

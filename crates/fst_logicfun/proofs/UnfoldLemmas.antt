@@ -10,7 +10,7 @@ use Rattle.fst_program.specs.FunctionFacts.{own_args, own_input, unfolded}
 use Rattle.fst_program.specs.Paths.{over, Way, suppose, suppose_all, demands_of}
 use Rattle.fst_program.specs.Texts.{Fn, Prog}
 use Rattle.fst_logicfun.specs.Ends.{End, ends}
-use Rattle.fst_logicfun.specs.Parts.{sorts_in}
+use Rattle.fst_scopes.specs.Scopes.{sorts_in}
 use Rattle.fst_logicfun.specs.Ways.{told, plain_end}
 use Rattle.fst_logicfun.specs.declared.ways.End as walked
 use Rattle.fst_terms.specs.DataFacts.{implies}

@@ -18,7 +18,7 @@ use Rattle.fst_program.specs.declared.comp.Con.TheVariants as con
 use Rattle.fst_program.specs.Paths.{con_of, con_args, op_of, selectors}
 use Rattle.fst_logicfun.specs.Ends.{entered}
 use Rattle.fst_logicfun.specs.Makes.{Makes}
-use Rattle.fst_logicfun.specs.Parts.{scope_of}
+use Rattle.fst_scopes.specs.Scopes.{terms_for}
 use Rattle.fst_logicfun.specs.Ways.{made_by}
 use Rattle.fst_logicfun.proofs.ClearLemmas.{scope-push}
 
@@ -39,8 +39,8 @@ con-args-Prim o S ts us p t is f = ap (map plain_term) f ∙ sym (listed-row (ma
 
 -- ---- hypotheses
 
-pub supposed-by : (hyps hs made : List Term) (x : Term) (e : Tm) → made ≡ hyps ++ x ∷ [] → hyps ≡ hs → plain_term x ≡ e → scope_of made ≡ e ∷ scope_of hs
-supposed-by hyps hs made x e m h f = ap scope_of m ∙ scope-push hyps x ∙ ap₂ ◌∷◌ f (ap scope_of h)
+pub supposed-by : (hyps hs made : List Term) (x : Term) (e : Tm) → made ≡ hyps ++ x ∷ [] → hyps ≡ hs → plain_term x ≡ e → terms_for made ≡ e ∷ terms_for hs
+supposed-by hyps hs made x e m h f = ap terms_for m ∙ scope-push hyps x ∙ ap₂ ◌∷◌ f (ap terms_for h)
 
 pub entered-other : (c : Con) (S : Srt) (u : Tm) (hs : List Tm) → (c ≡ con.True → ⊥) → (c ≡ con.False → ⊥) → (c ≡ con.Pair → ⊥) → entered c S u hs ≡ equation u (t_prim (op_of c) S (row (selectors c S u)) 0) ∷ hs
 entered-other con.True S u hs n m p = absurd (n refl)

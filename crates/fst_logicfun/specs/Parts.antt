@@ -32,11 +32,3 @@ parts_from m _ = None
 -- the first of these terms
 abbrev pub first_of : List Tm → Tm
 first_of ts = get_or ts 0 t_unit
-
--- the terms for the variables, from those of a scope: the last variable's first
-abbrev pub scope_of : List Term → List Tm
-scope_of ts = reverse (map plain_term ts)
-
--- the sorts of the variables, from those of a scope: the last variable's first
-abbrev pub sorts_in : List Sort → List Srt
-sorts_in Ss = reverse (map plain_sort Ss)

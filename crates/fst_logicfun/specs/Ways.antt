@@ -11,7 +11,7 @@ use Rattle.fst_program.specs.declared.comp.Con.TheVariants as con
 use Rattle.fst_program.specs.Texts.{Cm, CmArms, c_end, c_arm, Dm, DmArms, d_end, d_arm}
 use Rattle.fst_program.specs.Paths.{family, same_con, selectors, con_args}
 use Rattle.fst_logicfun.specs.Ends.{End, Taken, entered}
-use Rattle.fst_logicfun.specs.Parts.{scope_of}
+use Rattle.fst_scopes.specs.Scopes.{terms_for}
 use Rattle.fst_logicfun.specs.declared.ways.Taken as taken
 use Rattle.fst_logicfun.specs.declared.ways.End as walked
 
@@ -38,10 +38,10 @@ made_by op.Pair = Some con.Pair
 made_by _ = None
 
 abbrev pub plain_taken : taken.Taken → Taken
-plain_taken t = record { con = t.con; parts = map plain_term t.parts; hyps = scope_of t.hyps }
+plain_taken t = record { con = t.con; parts = map plain_term t.parts; hyps = terms_for t.hyps }
 
 abbrev pub plain_end : walked.End → End
-plain_end e = record { hyps = scope_of e.hyps; result = plain_term e.result }
+plain_end e = record { hyps = terms_for e.hyps; result = plain_term e.result }
 
 -- the first arm of this constructor
 abbrev pub arm_of : CmArms → Con → Option Cm

@@ -34,7 +34,7 @@ fn add(alloc: Global, term: &Term, met: &mut Seq<Term>) -> Result<(), OutOfMemor
 
 /// Adds the applications in a term, an outer one before its parts.
 #[cycle(parts)]
-#[tactic(auto, using(crate::proofs::PlainForms::plain_variants))]
+#[tactic(auto, using(fst_scopes::proofs::PlainForms::plain_variants))]
 fn add_parts(alloc: Global, term: &Term, met: &mut Seq<Term>) -> Result<(), OutOfMemory>
     ensures { OnOk result (map plain_term met.new ≡ firsts (map plain_term met.old) (filter is_application (parts_of (plain_term term.now)))) }
 {

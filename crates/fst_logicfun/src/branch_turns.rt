@@ -3,7 +3,7 @@
 ghost use Rattle.std.specs.Prelude.{◌≡◌, ◌++◌, map, option_map, reverse, IfOk};
 ghost use Rattle.std.specs.Option.{option_copied};
 ghost use Rattle.fst_logicfun.specs.Makes.{Makes};
-ghost use Rattle.fst_logicfun.specs.Parts.{scope_of, sorts_in};
+ghost use Rattle.fst_scopes.specs.Scopes.{terms_for, sorts_in};
 ghost use Rattle.fst_logicfun.specs.Turns.{arm_ends_at, arms_in, ends_at, first_con, next_ends, side_at, taken_ends, turns_at};
 ghost use Rattle.fst_logicfun.specs.Ways.{arm_of, bool_of, plain_taken};
 ghost use Rattle.fst_program.specs.Paths.{over};
@@ -16,16 +16,16 @@ use crate::building::{Made, copied, negation};
 use crate::cases::{supposed, takings};
 use crate::copying::copy_terms;
 use crate::putting::put_boxed;
-use crate::sorting::boxed_sort;
 use crate::turns::onward;
 use crate::ways::{At, Next, Taken, Text, Turn, Turned};
 use fst_base::{OutOfMemory, Seq, boxed, one};
 use fst_program::{Arm, Comp, Con};
+use fst_scopes::boxed_sort;
 use fst_terms::Term;
 use std::alloc::Global;
 
 /// The truth value of a literal.
-#[tactic(auto, using(crate::proofs::PlainForms::plain_variants))]
+#[tactic(auto, using(fst_scopes::proofs::PlainForms::plain_variants))]
 pub fn literal(term: &Term) -> Option<bool>
     ensures { result ≡ bool_of (plain_term term.now) }
 {
@@ -156,7 +156,7 @@ fn taken<'a>(
 
 /// The terms of the parts after those of the scope.
 pub fn with_parts(alloc: Global, scope: &[Term], parts: &[Term]) -> Result<Seq<Term>, OutOfMemory>
-    ensures { IfOk result (λ made. scope_of made ≡ reverse (map plain_term parts.now) ++ scope_of scope.now) }
+    ensures { IfOk result (λ made. terms_for made ≡ reverse (map plain_term parts.now) ++ terms_for scope.now) }
 {
     let mut made = copy_terms(alloc, scope)?;
     let parts = copy_terms(alloc, parts)?;

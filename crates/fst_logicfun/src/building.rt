@@ -24,7 +24,7 @@ pub fn copied(alloc: Global, term: &Term) -> Made
     term.copy(alloc)
 }
 
-#[tactic(auto, using(crate::proofs::PlainForms::plain_variants), unfolding(crate::specs::Makes::Makes))]
+#[tactic(auto, using(fst_scopes::proofs::PlainForms::plain_variants), unfolding(crate::specs::Makes::Makes))]
 pub fn truth(value: bool) -> Made
     ensures { Makes result (t_bool value) }
 {

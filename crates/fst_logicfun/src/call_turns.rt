@@ -8,13 +8,13 @@ ghost use Rattle.fst_program.specs.Plain.{plain_program};
 ghost use Rattle.fst_program.specs.Texts.{c_call, result_sort};
 ghost use Rattle.fst_terms.specs.Terms.{plain_term, plain_terms, t_app};
 
-use crate::clauses::{fun_at, is_user};
+use crate::clauses::is_user;
 use crate::copying::copy_terms;
 use crate::putting::put_all;
-use crate::text_sorts::result_sort;
 use crate::ways::{At, End, Turn, Turned};
 use fst_base::{Box, OutOfMemory, Seq, one};
 use fst_program::{Effect, Fun, Program};
+use fst_scopes::{fun_at, result_sort};
 use fst_terms::Term;
 use std::alloc::Global;
 

@@ -4,7 +4,7 @@ ghost use Rattle.std.specs.Prelude.{◌≡◌, ◌∷◌, [], map, IfOk};
 ghost use Rattle.fst_base.specs.Sorts.{plain_sort};
 ghost use Rattle.fst_logicfun.specs.Ends.{entered, takings};
 ghost use Rattle.fst_logicfun.specs.Makes.{Makes};
-ghost use Rattle.fst_logicfun.specs.Parts.{scope_of};
+ghost use Rattle.fst_scopes.specs.Scopes.{terms_for};
 ghost use Rattle.fst_logicfun.specs.Ways.{family_of, known_taking, made_by, plain_taken, taking};
 ghost use Rattle.fst_program.specs.Paths.{con_args, con_of, family, op_of, selectors};
 ghost use Rattle.fst_terms.specs.Formulas.{equation, make};
@@ -22,7 +22,7 @@ use std::alloc::Global;
 const NOWHERE: Pos = Pos { at: 0 };
 
 /// The constructor of a constructor term or a bool literal.
-#[tactic(auto, using(crate::proofs::PlainForms::plain_variants, crate::proofs::WayLemmas::made_variants))]
+#[tactic(auto, using(fst_scopes::proofs::PlainForms::plain_variants, crate::proofs::WayLemmas::made_variants))]
 fn con_of(term: &Term) -> Option<Con>
     ensures { result ≡ con_of (plain_term term.now) }
 {
@@ -65,7 +65,7 @@ fn op_of(con: Con) -> Op
 }
 
 /// The arguments of a constructor term.
-#[tactic(auto, using(crate::proofs::PlainForms::plain_variants))]
+#[tactic(auto, using(fst_scopes::proofs::PlainForms::plain_variants))]
 fn con_args(term: &Term) -> &[Term]
     ensures { map plain_term result.now ≡ con_args (plain_term term.now) }
 {
@@ -84,7 +84,7 @@ fn selected(alloc: Global, op: Op, sort: &Sort, term: &Term) -> Result<Term, Out
 }
 
 /// The selectors of a scrutinee of this sort, in the order of the constructor's parts.
-#[tactic(auto, using(crate::proofs::PlainForms::plain_variants))]
+#[tactic(auto, using(fst_scopes::proofs::PlainForms::plain_variants))]
 fn selectors(alloc: Global, con: Con, sort: &Sort, term: &Term) -> Result<Seq<Term>, OutOfMemory>
     ensures { IfOk result (λ made. map plain_term made ≡ selectors con (plain_sort sort.now) (plain_term term.now)) }
 {
@@ -114,7 +114,7 @@ fn selectors(alloc: Global, con: Con, sort: &Sort, term: &Term) -> Result<Seq<Te
 
 /// The hypotheses with one more.
 pub fn supposed(alloc: Global, hyps: &[Term], formula: Made) -> Result<Seq<Term>, OutOfMemory>
-    ensures { (e : Tm) → Makes formula e → IfOk result (λ made. scope_of made ≡ e ∷ scope_of hyps.now) }
+    ensures { (e : Tm) → Makes formula e → IfOk result (λ made. terms_for made ≡ e ∷ terms_for hyps.now) }
 {
     let (hyps, formula) = pair(copy_terms(alloc, hyps), formula)?;
     pushed(hyps, formula)
@@ -145,7 +145,7 @@ fn entered(
     term: &Term,
     hyps: &[Term],
 ) -> Result<Seq<Term>, OutOfMemory>
-    ensures { IfOk result (λ made. scope_of made ≡ entered con (plain_sort sort.now) (plain_term term.now) (scope_of hyps.now)) }
+    ensures { IfOk result (λ made. terms_for made ≡ entered con (plain_sort sort.now) (plain_term term.now) (terms_for hyps.now)) }
 {
     match con {
         Con::True => supposed(alloc, hyps, copied(alloc, term)),
@@ -163,7 +163,7 @@ fn taking(
     term: &Term,
     hyps: &[Term],
 ) -> Result<Taken, OutOfMemory>
-    ensures { IfOk result (λ made. plain_taken made ≡ taking con (plain_sort sort.now) (plain_term term.now) (scope_of hyps.now)) }
+    ensures { IfOk result (λ made. plain_taken made ≡ taking con (plain_sort sort.now) (plain_term term.now) (terms_for hyps.now)) }
 {
     let parts = selectors(alloc, con, sort, term);
     let (parts, hyps) = pair(parts, entered(alloc, con, sort, term, hyps))?;
@@ -179,7 +179,7 @@ fn both_of(
     term: &Term,
     hyps: &[Term],
 ) -> Result<Seq<Taken>, OutOfMemory>
-    ensures { IfOk result (λ made. map plain_taken made ≡ taking first (plain_sort sort.now) (plain_term term.now) (scope_of hyps.now) ∷ taking second (plain_sort sort.now) (plain_term term.now) (scope_of hyps.now) ∷ []) }
+    ensures { IfOk result (λ made. map plain_taken made ≡ taking first (plain_sort sort.now) (plain_term term.now) (terms_for hyps.now) ∷ taking second (plain_sort sort.now) (plain_term term.now) (terms_for hyps.now) ∷ []) }
 {
     let first = taking(alloc, first, sort, term, hyps);
     let (first, second) = pair(first, taking(alloc, second, sort, term, hyps))?;
@@ -188,7 +188,7 @@ fn both_of(
 
 /// The one way of a constructor term.
 fn known(alloc: Global, con: Con, term: &Term, hyps: &[Term]) -> Result<Seq<Taken>, OutOfMemory>
-    ensures { IfOk result (λ made. map plain_taken made ≡ known_taking con (plain_term term.now) (scope_of hyps.now) ∷ []) }
+    ensures { IfOk result (λ made. map plain_taken made ≡ known_taking con (plain_term term.now) (terms_for hyps.now) ∷ []) }
 {
     let parts = copy_terms(alloc, con_args(term));
     let (parts, hyps) = pair(parts, copy_terms(alloc, hyps))?;
@@ -203,7 +203,7 @@ fn family(
     term: &Term,
     hyps: &[Term],
 ) -> Result<Seq<Taken>, OutOfMemory>
-    ensures { IfOk result (λ made. map plain_taken made ≡ map (λ c. taking c (plain_sort sort.now) (plain_term term.now) (scope_of hyps.now)) (family con)) }
+    ensures { IfOk result (λ made. map plain_taken made ≡ map (λ c. taking c (plain_sort sort.now) (plain_term term.now) (terms_for hyps.now)) (family con)) }
 {
     match con {
         Con::True | Con::False => both_of(alloc, Con::True, Con::False, sort, term, hyps),
@@ -223,7 +223,7 @@ pub fn takings(
     term: &Term,
     hyps: &[Term],
 ) -> Result<Seq<Taken>, OutOfMemory>
-    ensures { IfOk result (λ made. map plain_taken made ≡ takings (family_of first) (plain_sort sort.now) (plain_term term.now) (scope_of hyps.now)) }
+    ensures { IfOk result (λ made. map plain_taken made ≡ takings (family_of first) (plain_sort sort.now) (plain_term term.now) (terms_for hyps.now)) }
 {
     if let Some(con) = con_of(term) {
         return known(alloc, con, term, hyps);

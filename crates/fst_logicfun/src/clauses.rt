@@ -2,7 +2,7 @@
 
 ghost use Rattle.std.specs.Prelude.{◌≡◌, ◌++◌, ◌∷◌, [], map, option_map, IfOk, OnOk};
 ghost use Rattle.std.specs.Option.{option_copied};
-ghost use Rattle.fst_logicfun.specs.Parts.{scope_of};
+ghost use Rattle.fst_scopes.specs.Scopes.{terms_for};
 ghost use Rattle.fst_program.specs.FunctionFacts.{but_last, last_term, own_args, own_input};
 ghost use Rattle.fst_program.specs.Paths.{clause_terms, demands_of, given, refinements};
 ghost use Rattle.fst_program.specs.Plain.{plain_fun, plain_param, plain_program};
@@ -15,13 +15,6 @@ use fst_base::{Box, OutOfMemory, Seq, boxed};
 use fst_program::{Effect, Fun, Param, Program};
 use fst_terms::{Formula, Term};
 use std::alloc::Global;
-
-/// The function of this number.
-pub fn fun_at(program: &Program, function: u32) -> Option<&Fun>
-    ensures { option_map plain_fun (option_copied result) ≡ fun_at (plain_program program.now) function }
-{
-    program.funs.get(function as usize)
-}
 
 /// Whether the effect is one that a program defines.
 pub fn is_user(effect: Effect) -> bool
@@ -52,7 +45,7 @@ fn but_last(args: &[Term]) -> &[Term]
 }
 
 /// The input of an application.
-#[tactic(auto, using(crate::proofs::PlainForms::plain_variants))]
+#[tactic(auto, using(fst_scopes::proofs::PlainForms::plain_variants))]
 pub fn own_input(alloc: Global, effect: Effect, args: &[Term]) -> Result<Box<Term>, OutOfMemory>
     ensures { IfOk result (λ input. plain_term input ≡ own_input effect (map plain_term args.now)) }
 {
@@ -63,7 +56,7 @@ pub fn own_input(alloc: Global, effect: Effect, args: &[Term]) -> Result<Box<Ter
     }
 }
 
-#[tactic(auto, using(crate::proofs::PlainForms::plain_variants))]
+#[tactic(auto, using(fst_scopes::proofs::PlainForms::plain_variants))]
 fn last_term(alloc: Global, args: &[Term]) -> Result<Box<Term>, OutOfMemory>
     ensures { IfOk result (λ last. plain_term last ≡ last_term (map plain_term args.now)) }
 {
@@ -81,7 +74,7 @@ pub fn clause_scope(
     args: &[Term],
     input: &Term,
 ) -> Result<Seq<Term>, OutOfMemory>
-    ensures { IfOk result (λ scope. scope_of scope ≡ clause_terms effect (map plain_term args.now) (plain_term input.now)) }
+    ensures { IfOk result (λ scope. terms_for scope ≡ clause_terms effect (map plain_term args.now) (plain_term input.now)) }
 {
     let mut scope = copy_terms(alloc, args)?;
     if is_user(effect) {
@@ -97,7 +90,7 @@ fn add_given(
     scope: &[Term],
     made: &mut Seq<Term>,
 ) -> Result<(), OutOfMemory>
-    ensures { OnOk result (map plain_term made.new ≡ map plain_term made.old ++ given (option_map plain_term clause.now) (scope_of scope.now)) }
+    ensures { OnOk result (map plain_term made.new ≡ map plain_term made.old ++ given (option_map plain_term clause.now) (terms_for scope.now)) }
 {
     match clause {
         Some(clause) => made.push(put(alloc, clause, scope)?),

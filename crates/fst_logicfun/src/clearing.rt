@@ -1,6 +1,6 @@
 ghost use Rattle.std.specs.Prelude.{◌≡◌, map, get_or, IfOk, OnOk};
 ghost use Rattle.fst_terms.specs.Cleared.{cleared};
-ghost use Rattle.fst_logicfun.specs.Parts.{scope_of};
+ghost use Rattle.fst_scopes.specs.Scopes.{terms_for};
 ghost use Rattle.fst_terms.specs.Terms.{plain_term, t_unit};
 ghost use Rattle.fst_terms.specs.Formulas.{vars_from};
 
@@ -11,7 +11,7 @@ use std::alloc::Global;
 
 /// The terms that stand for the variables 0 to n - 1, the last variable last.
 pub fn variables(alloc: Global, n: u32) -> Result<Seq<Term>, OutOfMemory>
-    ensures { IfOk result (λ scope. scope_of scope ≡ vars_from 0 n) }
+    ensures { IfOk result (λ scope. terms_for scope ≡ vars_from 0 n) }
 {
     let mut scope = Seq::new(alloc);
     let mut left = n;
@@ -24,9 +24,9 @@ pub fn variables(alloc: Global, n: u32) -> Result<Seq<Term>, OutOfMemory>
 
 /// The term with the terms of the scope for its variables, its lets substituted away and every place 0.
 #[cycle(clear)]
-#[tactic(auto, using(crate::proofs::PlainForms::plain_variants))]
+#[tactic(auto, using(fst_scopes::proofs::PlainForms::plain_variants))]
 pub fn clear(alloc: Global, term: &Term, scope: &mut Seq<Term>) -> Result<Term, OutOfMemory>
-    ensures made { IfOk result (λ made. plain_term made ≡ cleared (scope_of scope.old) (plain_term term.now)) }
+    ensures made { IfOk result (λ made. plain_term made ≡ cleared (terms_for scope.old) (plain_term term.now)) }
     ensures kept { OnOk result (scope.new ≡ scope.old) }
 {
     match term {
@@ -66,7 +66,7 @@ pub fn clear_all(
     terms: &[Term],
     scope: &mut Seq<Term>,
 ) -> Result<Seq<Term>, OutOfMemory>
-    ensures made { IfOk result (λ made. map plain_term made ≡ map (λ t. cleared (scope_of scope.old) (plain_term t)) terms.now) }
+    ensures made { IfOk result (λ made. map plain_term made ≡ map (λ t. cleared (terms_for scope.old) (plain_term t)) terms.now) }
     ensures kept { OnOk result (scope.new ≡ scope.old) }
 {
     let mut made = Seq::new(alloc);
@@ -78,7 +78,7 @@ pub fn clear_all(
 
 /// The term of a variable.
 pub fn look(alloc: Global, scope: &[Term], index: u32) -> Result<Term, OutOfMemory>
-    ensures { IfOk result (λ term. plain_term term ≡ get_or (scope_of scope.now) index t_unit) }
+    ensures { IfOk result (λ term. plain_term term ≡ get_or (terms_for scope.now) index t_unit) }
 {
     let index = index as usize;
     if index < scope.len() {

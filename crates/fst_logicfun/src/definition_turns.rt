@@ -4,7 +4,7 @@ ghost use Rattle.std.specs.Prelude.{◌≡◌, ◌++◌, [], map, option_map, If
 ghost use Rattle.std.specs.Option.{option_copied};
 ghost use Rattle.fst_base.specs.Sorts.{Srt, plain_sort};
 ghost use Rattle.fst_logicfun.specs.Makes.{Makes};
-ghost use Rattle.fst_logicfun.specs.Parts.{scope_of, sorts_in};
+ghost use Rattle.fst_scopes.specs.Scopes.{terms_for, sorts_in};
 ghost use Rattle.fst_logicfun.specs.Turns.{dm_arm_ends_at, dm_arms_in, dm_ends_at, dm_first_con, dm_side_at, dm_taken_ends, first_run, next_ends, second_run, turn_ends, turns_at};
 ghost use Rattle.fst_logicfun.specs.Ways.{dm_arm_of, plain_taken};
 ghost use Rattle.fst_program.specs.Paths.{over};
@@ -18,12 +18,11 @@ use crate::building::{Made, copied, negation};
 use crate::cases::{supposed, takings};
 use crate::copying::{copy_terms, pushed};
 use crate::putting::put_boxed;
-use crate::sort_putting::term_at;
-use crate::sorting::boxed_sort;
 use crate::turns::onward;
 use crate::ways::{At, End, Header, Next, Rest, Taken, Text, Turn, Turned};
 use fst_base::{Box, OutOfMemory, Seq, boxed, one, pair};
 use fst_program::{Arm, Con, DmTerm};
+use fst_scopes::{boxed_sort, term_at};
 use fst_terms::Term;
 use std::alloc::Global;
 
@@ -50,7 +49,7 @@ fn put_at(
     header: &Header,
     scope: &[Term],
 ) -> Result<Box<Term>, OutOfMemory>
-    ensures { IfOk result (λ made. plain_term made ≡ put (scope_of scope.now) (term_at (plain_sort header.now.a) (plain_sort header.now.b) (plain_term term.now))) }
+    ensures { IfOk result (λ made. plain_term made ≡ put (terms_for scope.now) (term_at (plain_sort header.now.a) (plain_sort header.now.b) (plain_term term.now))) }
 {
     let term = boxed(alloc, term_at(alloc, term, header.a.get(), header.b.get()))?;
     put_boxed(alloc, term.get(), scope)

@@ -4,7 +4,7 @@ ghost use Rattle.std.specs.Prelude.{◌≡◌, ◌∷◌, List, [], map, option_
 ghost use Rattle.std.specs.Option.{option_copied};
 ghost use Rattle.fst_base.specs.Sorts.{Srt, plain_sort};
 ghost use Rattle.fst_logicfun.specs.Ends.{End, ends};
-ghost use Rattle.fst_logicfun.specs.Parts.{scope_of, sorts_in};
+ghost use Rattle.fst_scopes.specs.Scopes.{terms_for, sorts_in};
 ghost use Rattle.fst_logicfun.specs.Turns.{Heads, ends_at, header_ends, next_ends, next_sort, rest_ends, text_ends, turns_at, value_sort};
 ghost use Rattle.fst_program.specs.Plain.{plain_comp, plain_dm, plain_program};
 ghost use Rattle.fst_program.specs.Texts.{Prog, bind_text, c_bind, c_lift, c_return, d_ret, if_there, lift_text, return_text};
@@ -12,31 +12,12 @@ ghost use Rattle.fst_terms.specs.Formulas.{sort_of};
 ghost use Rattle.fst_terms.specs.Terms.{Tm, plain_term, t_unit};
 
 use crate::copying::copy_terms;
-use crate::sorting::sort_of;
-use crate::text_sorts::{effect_at, extended, text_sort};
 use crate::ways::{At, Header, Next, Rest, Text, Turn, Turned};
 use fst_base::{Box, OutOfMemory, Seq, Sort, boxed, one};
-use fst_program::{Comp, DmTerm, Program};
+use fst_program::{Comp, DmTerm};
+use fst_scopes::{bind_text, lift_text, return_text, sorts_of, text_sort, with_sort};
 use fst_terms::Term;
 use std::alloc::Global;
-
-/// The sorts of the terms, in order.
-fn term_sorts(alloc: Global, terms: &[Term], sorts: &[Sort]) -> Result<Seq<Sort>, OutOfMemory>
-    ensures { IfOk result (λ made. map plain_sort made ≡ map (λ t. sort_of (sorts_in sorts.now) (plain_term t)) terms.now) }
-{
-    let mut made = Seq::new(alloc);
-    for term in terms {
-        made.push(sort_of(alloc, term, sorts)?)?;
-    }
-    Ok(made)
-}
-
-/// The sorts of the terms of a scope.
-fn sorts_of(alloc: Global, terms: &[Term], sorts: &[Sort]) -> Result<Seq<Sort>, OutOfMemory>
-    ensures { IfOk result (λ made. sorts_in made ≡ map (sort_of (sorts_in sorts.now)) (scope_of terms.now)) }
-{
-    term_sorts(alloc, terms, sorts)
-}
 
 /// A definition's text with its header; where there is none, its only end is of the unit value.
 fn definition<'a>(text: Option<&'a DmTerm>, header: Header<'a>) -> Text<'a>
@@ -61,7 +42,7 @@ fn next_sort(alloc: Global, first: &Sort, text: &Comp, at: &At) -> Result<Box<So
     ensures { IfOk result (λ sort. plain_sort sort ≡ next_sort (plain_sort first.now) (plain_comp text.now) at.now) }
 {
     let outer = sorts_of(alloc, at.scope, at.sorts)?;
-    let sorts = extended(alloc, outer.as_slice(), first)?;
+    let sorts = with_sort(alloc, outer.as_slice(), first)?;
     text_sort(alloc, text, at.program, sorts.as_slice())
 }
 
@@ -81,7 +62,7 @@ fn through<'a>(
     header: Header<'a>,
     at: &At<'a>,
 ) -> Turned<'a>
-    ensures { IfOk result (λ made. turns_at at.now made ≡ header_ends (plain_program at.now.program.now) (sorts_in at.now.sorts.now) header.entry (if_there (option_map plain_dm (option_copied text.entry)) (λ d. d) (d_ret t_unit)) (plain_term at.now.input.now ∷ []) (scope_of at.now.hyps.now)) }
+    ensures { IfOk result (λ made. turns_at at.now made ≡ header_ends (plain_program at.now.program.now) (sorts_in at.now.sorts.now) header.entry (if_there (option_map plain_dm (option_copied text.entry)) (λ d. d) (d_ret t_unit)) (plain_term at.now.input.now ∷ []) (terms_for at.now.hyps.now)) }
 {
     let scope = one(alloc, at.input.copy(alloc)?)?;
     let hyps = copy_terms(alloc, at.hyps)?;
@@ -96,7 +77,7 @@ fn bind_header<'a>(
     rest: &'a Comp,
     at: &At,
 ) -> Result<Header<'a>, OutOfMemory>
-    ensures { IfOk result (λ header. Heads header (Some (plain_comp bound.now)) (Some (plain_comp rest.now)) (scope_of at.now.scope.now) (value_sort (plain_comp bound.now) at.now) (next_sort (value_sort (plain_comp bound.now) at.now) (plain_comp rest.now) at.now)) }
+    ensures { IfOk result (λ header. Heads header (Some (plain_comp bound.now)) (Some (plain_comp rest.now)) (terms_for at.now.scope.now) (value_sort (plain_comp bound.now) at.now) (next_sort (value_sort (plain_comp bound.now) at.now) (plain_comp rest.now) at.now)) }
 {
     let scope = copy_terms(alloc, at.scope)?;
     let a = value_sort(alloc, bound, at)?;
@@ -112,7 +93,7 @@ fn bind_header<'a>(
 
 /// The header of a lift, which runs its part.
 fn lift_header<'a>(alloc: Global, part: &'a Comp, at: &At) -> Result<Header<'a>, OutOfMemory>
-    ensures { IfOk result (λ header. Heads header (Some (plain_comp part.now)) None (scope_of at.now.scope.now) (value_sort (plain_comp part.now) at.now) (value_sort (plain_comp part.now) at.now)) }
+    ensures { IfOk result (λ header. Heads header (Some (plain_comp part.now)) None (terms_for at.now.scope.now) (value_sort (plain_comp part.now) at.now) (value_sort (plain_comp part.now) at.now)) }
 {
     let scope = copy_terms(alloc, at.scope)?;
     let (a, b) = both_sorts(alloc, part, at)?;
@@ -163,7 +144,7 @@ pub fn lift_turn<'a>(alloc: Global, lift: u32, part: &'a Comp, at: &At<'a>) -> T
 
 /// The part of a return, on its way.
 fn part_next<'a>(alloc: Global, part: &'a Comp, at: &At<'a>) -> Result<Next<'a>, OutOfMemory>
-    ensures { IfOk result (λ made. next_ends (plain_program at.now.program.now) (sorts_in at.now.sorts.now) made ≡ ends (plain_program at.now.program.now) (sorts_in at.now.sorts.now) (plain_comp part.now) (scope_of at.now.scope.now) t_unit (scope_of at.now.hyps.now)) }
+    ensures { IfOk result (λ made. next_ends (plain_program at.now.program.now) (sorts_in at.now.sorts.now) made ≡ ends (plain_program at.now.program.now) (sorts_in at.now.sorts.now) (plain_comp part.now) (terms_for at.now.scope.now) t_unit (terms_for at.now.hyps.now)) }
 {
     let input = Box::new(alloc, Term::Unit)?;
     let scope = copy_terms(alloc, at.scope)?;
@@ -197,34 +178,4 @@ pub fn return_turn<'a>(alloc: Global, effect: u32, part: &'a Comp, at: &At<'a>) 
     let rest = after_part(alloc, return_text(at.program, effect), header, at)?;
     let first = part_next(alloc, part, at)?;
     Ok(Turn::Then(first, rest))
-}
-
-/// The text of an effect's bind.
-fn bind_text(program: &Program, effect: u32) -> Option<&DmTerm>
-    ensures { if_there (option_map plain_dm (option_copied result)) (λ d. d) (d_ret t_unit) ≡ bind_text (plain_program program.now) effect }
-{
-    match effect_at(program, effect) {
-        Some(effect) => Some(&effect.bind),
-        None => None,
-    }
-}
-
-/// The text of an effect's return.
-fn return_text(program: &Program, effect: u32) -> Option<&DmTerm>
-    ensures { if_there (option_map plain_dm (option_copied result)) (λ d. d) (d_ret t_unit) ≡ return_text (plain_program program.now) effect }
-{
-    match effect_at(program, effect) {
-        Some(effect) => Some(&effect.ret),
-        None => None,
-    }
-}
-
-/// The text of a lift.
-fn lift_text(program: &Program, lift: u32) -> Option<&DmTerm>
-    ensures { if_there (option_map plain_dm (option_copied result)) (λ d. d) (d_ret t_unit) ≡ lift_text (plain_program program.now) lift }
-{
-    match program.lifts.get(lift as usize) {
-        Some(lift) => Some(&lift.text),
-        None => None,
-    }
 }

@@ -26,7 +26,7 @@ pub fn make(
 }
 
 /// The primitive at this place.
-#[tactic(auto, using(crate::proofs::PlainForms::plain_variants))]
+#[tactic(auto, using(fst_scopes::proofs::PlainForms::plain_variants))]
 pub fn prim(
     alloc: Global,
     op: Op,
@@ -74,7 +74,7 @@ fn parts(args: &[Term], maker: Op) -> Option<&[Term]>
     parts_of(&args[0], maker)
 }
 
-#[tactic(auto, using(crate::proofs::PlainForms::plain_variants))]
+#[tactic(auto, using(fst_scopes::proofs::PlainForms::plain_variants))]
 fn parts_of(term: &Term, maker: Op) -> Option<&[Term]>
     ensures { option_map (map plain_term) (option_copied result) ≡ parts_from maker (plain_term term.now) }
 {

@@ -2,7 +2,7 @@
 
 ghost use Rattle.std.specs.Prelude.{◌≡◌, ◌∷◌, map, option_map, IfOk};
 ghost use Rattle.fst_logicfun.specs.Makes.{Makes};
-ghost use Rattle.fst_logicfun.specs.Parts.{scope_of};
+ghost use Rattle.fst_scopes.specs.Scopes.{terms_for};
 ghost use Rattle.fst_logicfun.specs.Rounds.{each_of, facts_by};
 ghost use Rattle.fst_program.specs.FunctionFacts.{own_args, own_input, posted};
 ghost use Rattle.fst_program.specs.Plain.{plain_fun, plain_program};
@@ -11,27 +11,28 @@ ghost use Rattle.fst_terms.specs.Formulas.{joined, put};
 ghost use Rattle.fst_terms.specs.Terms.{plain_term, plain_terms, t_app};
 
 use crate::building::{Made, implies, joined};
-use crate::clauses::{clause_scope, demands, fun_at, own_args, own_input};
+use crate::clauses::{clause_scope, demands, own_args, own_input};
 use crate::copying::pushed;
 use crate::putting::put;
 use crate::unfolding::unfolded;
 use crate::ways::Which;
 use fst_base::{OutOfMemory, Seq, one};
 use fst_program::{Fun, Program};
+use fst_scopes::fun_at;
 use fst_terms::{Formula, Term};
 use std::alloc::Global;
 
 /// The clause with the terms of the scope for its variables.
 #[tactic(auto, unfolding(crate::specs::Makes::Makes))]
 fn put_clause(alloc: Global, clause: &Formula, scope: &[Term]) -> Made
-    ensures { Makes result (put (scope_of scope.now) (plain_term clause.now)) }
+    ensures { Makes result (put (terms_for scope.now) (plain_term clause.now)) }
 {
     put(alloc, clause, scope)
 }
 
 /// The clause under what is demanded.
 fn under(alloc: Global, demands: &[Term], clause: &Formula, scope: &[Term]) -> Made
-    ensures { Makes result (implies (joined (map plain_term demands.now)) (put (scope_of scope.now) (plain_term clause.now))) }
+    ensures { Makes result (implies (joined (map plain_term demands.now)) (put (terms_for scope.now) (plain_term clause.now))) }
 {
     implies(
         alloc,
@@ -99,7 +100,7 @@ fn facts_at(
 }
 
 /// The wanted facts of a term: none, where it is no application of a function of the program.
-#[tactic(auto, using(crate::proofs::PlainForms::plain_variants))]
+#[tactic(auto, using(fst_scopes::proofs::PlainForms::plain_variants))]
 pub fn facts_of(
     alloc: Global,
     program: &Program,

@@ -1,7 +1,7 @@
 //! Terms for variables.
 
 ghost use Rattle.std.specs.Prelude.{◌≡◌, ◌∷◌, map, IfOk};
-ghost use Rattle.fst_logicfun.specs.Parts.{scope_of};
+ghost use Rattle.fst_scopes.specs.Scopes.{terms_for};
 ghost use Rattle.fst_terms.specs.Formulas.{put};
 ghost use Rattle.fst_terms.specs.Terms.{plain_term, shift, t_var};
 
@@ -14,9 +14,9 @@ use std::alloc::Global;
 
 /// The term with the terms of the scope for its variables; the last variable's stands last.
 #[cycle(put)]
-#[tactic(auto, using(crate::proofs::PlainForms::plain_variants))]
+#[tactic(auto, using(fst_scopes::proofs::PlainForms::plain_variants))]
 pub fn put(alloc: Global, term: &Term, scope: &[Term]) -> Result<Term, OutOfMemory>
-    ensures { IfOk result (λ made. plain_term made ≡ put (scope_of scope.now) (plain_term term.now)) }
+    ensures { IfOk result (λ made. plain_term made ≡ put (terms_for scope.now) (plain_term term.now)) }
 {
     match term {
         Term::Var(index) => look(alloc, scope, *index),
@@ -49,7 +49,7 @@ pub fn put(alloc: Global, term: &Term, scope: &[Term]) -> Result<Term, OutOfMemo
 
 #[cycle(put)]
 pub fn put_boxed(alloc: Global, term: &Term, scope: &[Term]) -> Result<Box<Term>, OutOfMemory>
-    ensures { IfOk result (λ made. plain_term made ≡ put (scope_of scope.now) (plain_term term.now)) }
+    ensures { IfOk result (λ made. plain_term made ≡ put (terms_for scope.now) (plain_term term.now)) }
 {
     boxed(alloc, put(alloc, term, scope))
 }
@@ -57,7 +57,7 @@ pub fn put_boxed(alloc: Global, term: &Term, scope: &[Term]) -> Result<Box<Term>
 /// The same under one variable more, which stands for itself.
 #[cycle(put)]
 fn put_under(alloc: Global, term: &Term, scope: &[Term]) -> Result<Box<Term>, OutOfMemory>
-    ensures { IfOk result (λ made. plain_term made ≡ put (t_var 0 ∷ map (shift 0 1) (scope_of scope.now)) (plain_term term.now)) }
+    ensures { IfOk result (λ made. plain_term made ≡ put (t_var 0 ∷ map (shift 0 1) (terms_for scope.now)) (plain_term term.now)) }
 {
     let inner = scope_under(alloc, scope)?;
     put_boxed(alloc, term, inner.as_slice())
@@ -65,7 +65,7 @@ fn put_under(alloc: Global, term: &Term, scope: &[Term]) -> Result<Box<Term>, Ou
 
 #[cycle(put)]
 pub fn put_all(alloc: Global, terms: &[Term], scope: &[Term]) -> Result<Seq<Term>, OutOfMemory>
-    ensures { IfOk result (λ made. map plain_term made ≡ map (λ t. put (scope_of scope.now) (plain_term t)) terms.now) }
+    ensures { IfOk result (λ made. map plain_term made ≡ map (λ t. put (terms_for scope.now) (plain_term t)) terms.now) }
 {
     let mut made = Seq::new(alloc);
     for term in terms {

@@ -1,7 +1,7 @@
 //! Terms under one variable more.
 
 ghost use Rattle.std.specs.Prelude.{◌≡◌, ◌∷◌, suc, map, IfOk};
-ghost use Rattle.fst_logicfun.specs.Parts.{scope_of};
+ghost use Rattle.fst_scopes.specs.Scopes.{terms_for};
 ghost use Rattle.fst_terms.specs.Terms.{plain_term, shift, t_var};
 
 use fst_base::{Box, OutOfMemory, Seq, boxed, pair};
@@ -10,7 +10,7 @@ use std::alloc::Global;
 
 /// The term with the indices that are at least `from` raised by 1. An index that would pass 32 bits is want of memory.
 #[cycle(raise)]
-#[tactic(auto, using(crate::proofs::PlainForms::plain_variants))]
+#[tactic(auto, using(fst_scopes::proofs::PlainForms::plain_variants))]
 fn raise(alloc: Global, term: &Term, from: u32) -> Result<Term, OutOfMemory>
     ensures { IfOk result (λ raised. plain_term raised ≡ shift from 1 (plain_term term.now)) }
 {
@@ -43,7 +43,7 @@ fn raise(alloc: Global, term: &Term, from: u32) -> Result<Term, OutOfMemory>
     }
 }
 
-#[tactic(auto, using(crate::proofs::PlainForms::plain_variants))]
+#[tactic(auto, using(fst_scopes::proofs::PlainForms::plain_variants))]
 fn raise_index(index: u32, from: u32) -> Result<Term, OutOfMemory>
     ensures { IfOk result (λ raised. plain_term raised ≡ shift from 1 (t_var index)) }
 {
@@ -86,9 +86,9 @@ fn raise_all(alloc: Global, terms: &[Term], from: u32) -> Result<Seq<Term>, OutO
 }
 
 /// The terms of the scope under one variable more, and that variable.
-#[tactic(auto, using(crate::proofs::PlainForms::plain_variants))]
+#[tactic(auto, using(fst_scopes::proofs::PlainForms::plain_variants))]
 pub fn scope_under(alloc: Global, scope: &[Term]) -> Result<Seq<Term>, OutOfMemory>
-    ensures { IfOk result (λ inner. scope_of inner ≡ t_var 0 ∷ map (shift 0 1) (scope_of scope.now)) }
+    ensures { IfOk result (λ inner. terms_for inner ≡ t_var 0 ∷ map (shift 0 1) (terms_for scope.now)) }
 {
     let mut inner = raise_all(alloc, scope, 0)?;
     inner.push(Term::Var(0))?;

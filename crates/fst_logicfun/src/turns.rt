@@ -1,14 +1,12 @@
 //! What core text comes to in one turn of its walk.
 
 ghost use Rattle.std.specs.Prelude.{◌≡◌, List, [], IfOk};
-ghost use Rattle.fst_base.specs.Sorts.{s_unit};
-ghost use Rattle.fst_logicfun.specs.Parts.{scope_of};
-ghost use Rattle.fst_base.specs.Sorts.{Srt};
+ghost use Rattle.fst_base.specs.Sorts.{s_unit, Srt};
+ghost use Rattle.fst_scopes.specs.Scopes.{terms_for};
 ghost use Rattle.fst_logicfun.specs.Ends.{ends};
 ghost use Rattle.fst_logicfun.specs.Turns.{ends_at, turn_ends, turns_at};
-ghost use Rattle.fst_program.specs.Texts.{Prog};
+ghost use Rattle.fst_program.specs.Texts.{Prog, c_assert, c_let, c_reflect, c_reify, c_ret};
 ghost use Rattle.fst_program.specs.Plain.{plain_comp};
-ghost use Rattle.fst_program.specs.Texts.{c_assert, c_let, c_reflect, c_reify, c_ret};
 ghost use Rattle.fst_terms.specs.Terms.{plain_term};
 
 use crate::building::copied;
@@ -38,7 +36,7 @@ pub fn onward<'a>(
     scope: Seq<Term>,
     hyps: Seq<Term>,
 ) -> Turned<'a>
-    ensures { IfOk result (λ made. (P : Prog) (Ss : List Srt) → turn_ends P Ss made ≡ ends P Ss (plain_comp text.now) (scope_of scope) (plain_term input) (scope_of hyps)) }
+    ensures { IfOk result (λ made. (P : Prog) (Ss : List Srt) → turn_ends P Ss made ≡ ends P Ss (plain_comp text.now) (terms_for scope) (plain_term input) (terms_for hyps)) }
 {
     let text = Text::Core(text, input);
     Ok(Turn::Ways(one(alloc, Next { text, scope, hyps })?))

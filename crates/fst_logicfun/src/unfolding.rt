@@ -4,7 +4,7 @@ ghost use Rattle.std.specs.Prelude.{◌≡◌, map, reverse, IfOk};
 ghost use Rattle.fst_base.specs.Sorts.{plain_sort};
 ghost use Rattle.fst_logicfun.specs.Ends.{ends};
 ghost use Rattle.fst_logicfun.specs.Makes.{Makes};
-ghost use Rattle.fst_logicfun.specs.Parts.{sorts_in};
+ghost use Rattle.fst_scopes.specs.Scopes.{sorts_in};
 ghost use Rattle.fst_logicfun.specs.Ways.{plain_end, told};
 ghost use Rattle.fst_program.specs.FunctionFacts.{own_args, own_input, unfolded};
 ghost use Rattle.fst_program.specs.Paths.{demands_of};

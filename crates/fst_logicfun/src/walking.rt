@@ -6,7 +6,7 @@
 ghost use Rattle.std.specs.Prelude.{◌≡◌, ◌++◌, ◌∷◌, List, map, IfOk};
 ghost use Rattle.fst_base.specs.Sorts.{Srt};
 ghost use Rattle.fst_logicfun.specs.Ends.{at_end};
-ghost use Rattle.fst_logicfun.specs.Parts.{scope_of, sorts_in};
+ghost use Rattle.fst_scopes.specs.Scopes.{terms_for, sorts_in};
 ghost use Rattle.fst_logicfun.specs.Turns.{ends_at, next_ends, rest_ends, text_ends, turn_ends, turns_at};
 ghost use Rattle.fst_logicfun.specs.Ways.{plain_end};
 ghost use Rattle.fst_program.specs.Paths.{over};
@@ -30,7 +30,7 @@ use std::alloc::Global;
 type Ended = Result<Seq<End>, OutOfMemory>;
 
 /// The turn of core text.
-#[tactic(auto, using(crate::proofs::CompForms::comp_variants))]
+#[tactic(auto, using(fst_scopes::proofs::PlainForms::comp_variants))]
 fn core_turn<'a>(alloc: Global, text: &'a Comp, at: &At<'a>) -> Turned<'a>
     ensures { IfOk result (λ made. turns_at at.now made ≡ ends_at (plain_comp text.now) at.now) }
 {
@@ -54,7 +54,7 @@ fn core_turn<'a>(alloc: Global, text: &'a Comp, at: &At<'a>) -> Turned<'a>
 
 /// The unit value ends the way.
 fn nothing_turn<'a>(alloc: Global, hyps: &[Term]) -> Turned<'a>
-    ensures { IfOk result (λ made. (P : Prog) (Ss : List Srt) → turn_ends P Ss made ≡ at_end (scope_of hyps.now) t_unit) }
+    ensures { IfOk result (λ made. (P : Prog) (Ss : List Srt) → turn_ends P Ss made ≡ at_end (terms_for hyps.now) t_unit) }
 {
     let result = Box::new(alloc, Term::Unit)?;
     let hyps = copy_terms(alloc, hyps)?;
@@ -193,7 +193,7 @@ fn between(
     term: &Term,
     above: &[Term],
 ) -> Result<Seq<Term>, OutOfMemory>
-    ensures { IfOk result (λ made. scope_of made ≡ scope_of above.now ++ plain_term term.now ∷ scope_of below.now) }
+    ensures { IfOk result (λ made. terms_for made ≡ terms_for above.now ++ plain_term term.now ∷ terms_for below.now) }
 {
     let mut made = copy_terms(alloc, below)?;
     made.push(term.copy(alloc)?)?;

@@ -1,5 +1,5 @@
 use Rattle.fst_program.specs.Plain.{plain_program}
-use Rattle.fst_logicfun.specs.Parts.{sorts_in}
+use Rattle.fst_scopes.specs.Scopes.{sorts_in}
 use Rattle.fst_logicfun.specs.Turns.{arm_ends_at, arms_in, next_ends}
 use Rattle.fst_logicfun.specs.Ways.{plain_taken}
 use Rattle.fst_logicfun.proofs.TurnLemmas.{made-more}

@@ -1,7 +1,7 @@
 use Rattle.std.proofs.Common.{◌≡◌, take, map}
 use Rattle.fst_program.specs.Paths.{over}
 use Rattle.fst_program.specs.Plain.{plain_program}
-use Rattle.fst_logicfun.specs.Parts.{sorts_in}
+use Rattle.fst_scopes.specs.Scopes.{sorts_in}
 use Rattle.fst_logicfun.specs.Turns.{dm_arm_ends_at, dm_arms_in, next_ends}
 use Rattle.fst_logicfun.specs.Ways.{plain_taken}
 use Rattle.fst_logicfun.proofs.definition_turns.arm_ways.Given as goal

@@ -1,10 +1,9 @@
 use Rattle.std.proofs.Common.{◌≡◌, [], map, ap, ◌∙◌, arith}
-use Rattle.fst_logicfun.specs.Rounds.{each_of}
+use Rattle.fst_logicfun.specs.Rounds.{each_of, next}
 use Rattle.fst_program.specs.Plain.{plain_program}
 use Rattle.fst_terms.specs.DataFacts.{again}
 use Rattle.fst_terms.specs.Formulas.{vars_from}
 use Rattle.fst_terms.specs.Terms.{plain_term}
-use Rattle.fst_logicfun.specs.Rounds.{next}
 use Rattle.fst_logicfun.proofs.RoundLemmas.{turn-start, turn-more}
 use Rattle.fst_logicfun.proofs.rounds.rounds.Goals as goal
 

@@ -1,7 +1,7 @@
 use Rattle.std.proofs.Common.{◌≡◌, ◌+◌, ◌*◌, take, map}
 use Rattle.fst_program.specs.Paths.{over}
 use Rattle.fst_program.specs.Plain.{plain_program}
-use Rattle.fst_logicfun.specs.Parts.{sorts_in}
+use Rattle.fst_scopes.specs.Scopes.{sorts_in}
 use Rattle.fst_logicfun.specs.Turns.{next_ends, rest_ends}
 use Rattle.fst_logicfun.specs.Ways.{plain_end}
 use Rattle.fst_logicfun.proofs.walking.+ends.Given as goal

@@ -1,33 +1,24 @@
 //! The sort of the value that a text gives.
 
-ghost use Rattle.std.specs.Prelude.{◌≡◌, ◌++◌, ◌∷◌, option_map, IfOk};
-ghost use Rattle.std.specs.Option.{option_copied};
+ghost use Rattle.std.specs.Prelude.{◌≡◌, ◌∷◌, IfOk};
 ghost use Rattle.fst_base.specs.Sorts.{plain_sort};
-ghost use Rattle.fst_logicfun.specs.Parts.{sorts_in};
-ghost use Rattle.fst_program.specs.Paths.{arms_sort, part_sorts, text_sort};
-ghost use Rattle.fst_program.specs.Plain.{plain_comp, plain_effect, plain_program};
-ghost use Rattle.fst_program.specs.Texts.{c_match, effect_at, result_at, result_sort};
+ghost use Rattle.fst_program.specs.Paths.{arms_sort, text_sort};
+ghost use Rattle.fst_program.specs.Plain.{plain_comp, plain_program};
+ghost use Rattle.fst_program.specs.Texts.{c_match, result_at, result_sort};
 ghost use Rattle.fst_program.proofs.PlainLemmas.{plain_arms};
+ghost use Rattle.fst_scopes.specs.Scopes.{sorts_in};
 ghost use Rattle.fst_terms.specs.Terms.{plain_term};
 
-use crate::clauses::fun_at;
-use crate::copying::pushed;
+use crate::headers::{effect_at, fun_at};
 use crate::sort_putting::put_sorts;
-use crate::sorting::{boxed_sort, copy_sorts};
-use fst_base::{Box, OutOfMemory, Seq, Sort, boxed};
-use fst_program::{Arm, Comp, Con, Effect, EffectDef, Program};
+use crate::sorting::{boxed_sort, with_parts, with_sort};
+use fst_base::{Box, OutOfMemory, Sort, boxed};
+use fst_program::{Arm, Comp, Effect, Program};
 use fst_terms::Term;
 use std::alloc::Global;
 
-/// The effect of this number.
-pub fn effect_at(program: &Program, effect: u32) -> Option<&EffectDef>
-    ensures { option_map plain_effect (option_copied result) ≡ effect_at (plain_program program.now) effect }
-{
-    program.effects.get(effect as usize)
-}
-
 /// The result sort of an effect at this value sort.
-fn result_at(
+pub fn result_at(
     alloc: Global,
     program: &Program,
     effect: u32,
@@ -59,52 +50,9 @@ pub fn result_sort(
     }
 }
 
-/// The sorts with one more.
-pub fn extended(alloc: Global, sorts: &[Sort], sort: &Sort) -> Result<Seq<Sort>, OutOfMemory>
-    ensures { IfOk result (λ inner. sorts_in inner ≡ plain_sort sort.now ∷ sorts_in sorts.now) }
-{
-    let inner = copy_sorts(alloc, sorts)?;
-    pushed(inner, sort.copy(alloc)?)
-}
-
-/// The sorts with two more.
-fn extended_twice(
-    alloc: Global,
-    sorts: &[Sort],
-    first: &Sort,
-    second: &Sort,
-) -> Result<Seq<Sort>, OutOfMemory>
-    ensures { IfOk result (λ inner. sorts_in inner ≡ plain_sort second.now ∷ plain_sort first.now ∷ sorts_in sorts.now) }
-{
-    let inner = extended(alloc, sorts, first)?;
-    extended(alloc, inner.as_slice(), second)
-}
-
-/// The sorts of the variables and of the parts of a constructor.
-#[tactic(auto, using(crate::proofs::PlainForms::plain_variants))]
-fn with_parts(
-    alloc: Global,
-    con: Con,
-    sort: &Sort,
-    sorts: &[Sort],
-) -> Result<Seq<Sort>, OutOfMemory>
-    ensures { IfOk result (λ inner. sorts_in inner ≡ part_sorts con (plain_sort sort.now) ++ sorts_in sorts.now) }
-{
-    match (con, sort) {
-        (Con::Full, Sort::Opt(item)) => extended(alloc, sorts, item.get()),
-        (Con::Cons, Sort::List(item)) => extended_twice(alloc, sorts, item.get(), sort),
-        (Con::Left, Sort::Either(left, _)) => extended(alloc, sorts, left.get()),
-        (Con::Right, Sort::Either(_, right)) => extended(alloc, sorts, right.get()),
-        (Con::Pair, Sort::Pair(left, right)) => {
-            extended_twice(alloc, sorts, left.get(), right.get())
-        }
-        _ => copy_sorts(alloc, sorts),
-    }
-}
-
 /// The sort of the text's value, where these are the sorts of its variables.
 #[cycle(text_sort)]
-#[tactic(auto, using(crate::proofs::CompForms::comp_variants))]
+#[tactic(auto, using(crate::proofs::PlainForms::comp_variants))]
 pub fn text_sort(
     alloc: Global,
     text: &Comp,
@@ -152,7 +100,7 @@ fn rest_sort(
 ) -> Result<Box<Sort>, OutOfMemory>
     ensures { IfOk result (λ sort. plain_sort sort ≡ text_sort (plain_program program.now) (plain_sort first.now ∷ sorts_in sorts.now) (plain_comp rest.now)) }
 {
-    let inner = extended(alloc, sorts, first)?;
+    let inner = with_sort(alloc, sorts, first)?;
     text_sort(alloc, rest, program, inner.as_slice())
 }
 
@@ -186,6 +134,6 @@ fn arms_sort(
         return Box::new(alloc, Sort::Unit);
     }
     let arm = &arms[0];
-    let inner = with_parts(alloc, arm.con, sort, sorts)?;
+    let inner = with_parts(alloc, sorts, arm.con, sort)?;
     text_sort(alloc, &arm.body, program, inner.as_slice())
 }

@@ -1,5 +1,5 @@
-use Rattle.fst_logicfun.proofs.SortLemmas.{at-Prim-by, at-App-by}
-use Rattle.fst_logicfun.proofs.sort_putting.+term_at.Goals as goal
+use Rattle.fst_scopes.proofs.PuttingLemmas.{at-Prim-by, at-App-by}
+use Rattle.fst_scopes.proofs.sort_putting.+term_at.Goals as goal
 
 pub term_at-returns-in_ok-put_sorts-in-Prim : goal.term_at-returns-in_ok-put_sorts-in-Prim
 term_at-returns-in_ok-put_sorts-in-Prim t c = at-Prim-by _ _ _ _ _ _ _ _ _ _ c.in-Prim.is c.as_slice.ensures c.in_ok-put_sorts-in-Prim.ensures c.in_ok-args-in-Prim.ensures

@@ -1,9 +1,9 @@
 use Rattle.std.proofs.lemmas.Result.{IfOk-weaker}
 use Rattle.fst_base.specs.Sorts.{plain_sort}
 use Rattle.fst_program.specs.Plain.{plain_program}
-use Rattle.fst_logicfun.specs.Parts.{sorts_in}
-use Rattle.fst_logicfun.proofs.CompForms.{match-sort-by}
-use Rattle.fst_logicfun.proofs.text_sorts.+text_sort.Goals as goal
+use Rattle.fst_scopes.specs.Scopes.{sorts_in}
+use Rattle.fst_scopes.proofs.TextLemmas.{match-sort-by}
+use Rattle.fst_scopes.proofs.text_sorts.+text_sort.Goals as goal
 
 pub text_sort-returns-in-Match : goal.text_sort-returns-in-Match
 text_sort-returns-in-Match t c =

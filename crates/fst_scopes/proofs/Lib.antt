@@ -1,0 +1,4 @@
+pub mod PlainForms
+mod SortingLemmas
+mod PuttingLemmas
+mod TextLemmas
