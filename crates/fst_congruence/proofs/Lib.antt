@@ -13,3 +13,4 @@ pub mod GivenLemmas
 pub mod JoinedLemmas
 pub mod NumberingLemmas
 pub mod GuessLemmas
+pub mod FirstMakerLemmas

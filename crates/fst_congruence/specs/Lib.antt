@@ -7,3 +7,4 @@ pub mod Steps
 pub mod Closures
 pub mod Extracts
 pub mod Explained
+pub mod Makers

@@ -35,10 +35,18 @@ impl Model for Closure {
 }
 
 impl Closure {
+    /// How many labels there are: one more than terms.
+    pub fn count(&self) -> u32
+        ensures { result ≡ length self.now.labels }
+    {
+        self.classes.labels.len() as u32
+    }
+
     /// The label of a term: two terms have one label exactly where the least congruence joins them.
     pub fn label(&self, term: u32) -> u32
         requires { term < length self.now.labels }
-        ensures { result ≡ label_at self.now.labels term }
+        ensures is { result ≡ label_at self.now.labels term }
+        ensures small { result < length self.now.labels }
     {
         self.classes.labels.as_slice()[term as usize]
     }
@@ -49,6 +57,14 @@ impl Closure {
     {
         let nodes = self.nodes.as_slice();
         (term as usize) < nodes.len() && nodes[term as usize].kind != 0
+    }
+
+    /// The number of the constructor that a term begins with, 0 for none.
+    pub fn maker(&self, term: u32) -> u32
+        requires { term < length self.now.labels }
+        ensures { result ≡ (node_at self.now.nodes term).constructor }
+    {
+        self.nodes.as_slice()[term as usize].constructor
     }
 
     /// Lines that give left = right, which have one label.
