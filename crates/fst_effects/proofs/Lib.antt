@@ -1,11 +1,12 @@
 mod Examples
-mod PlainLemmas
+pub mod PlainLemmas
 mod ScopeLemmas
 mod WantLemmas
 mod FaultLemmas
 mod GivenLemmas
 mod PrimitiveLemmas
-mod NodePlaces
+pub mod NodePlaces
 mod RowLemmas
+pub mod PatternLemmas
 mod CheckLemmas
 mod CoreLemmas

@@ -210,7 +210,7 @@ fn core_rest(
 /// The core terms of these, where these sorts are wanted of them.
 #[cycle(core)]
 #[tactic(auto, using(crate::proofs::CoreLemmas::lists))]
-pub(crate) fn core_forms(
+pub fn core_forms(
     alloc: Global,
     callees: &[Callee],
     forms: &[Form<Ref>],
