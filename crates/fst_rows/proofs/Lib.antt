@@ -3,3 +3,4 @@ pub mod RiseLemmas
 pub mod ExtensionLemmas
 pub mod DivisorLemmas
 pub mod MergeLemmas
+pub mod ExactLemmas

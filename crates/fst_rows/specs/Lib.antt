@@ -1,3 +1,4 @@
 pub mod Plain
 pub mod Sums
 pub mod Turns
+pub mod Exact

@@ -2,6 +2,7 @@
 #![tactic(auto)]
 
 mod divide;
+mod exact;
 mod fault;
 mod laws;
 mod number;
@@ -11,6 +12,7 @@ mod sums;
 mod turn;
 
 pub use divide::gcd;
+pub use exact::{plus, scaled, tighten};
 pub use fault::RowFault;
 pub use laws::sums_keep_solutions;
 pub use ordered::are_ordered;

@@ -17,7 +17,8 @@ pub fn product(p: i128, n: i128) -> Result<i128, RowFault>
     }
 }
 
-fn sum(m: i128, n: i128) -> Result<i128, RowFault>
+/// The sum, unless it is past 128 bits.
+pub fn sum(m: i128, n: i128) -> Result<i128, RowFault>
     ensures { MatchResult result (λ r. (r ≡ m +ℤ n) × (not (in128 (m +ℤ n)) ≡ false)) (λ _. not (in128 (m +ℤ n)) ≡ true) }
 {
     match m.checked_add(n) {

@@ -14,7 +14,7 @@ use fst_base::{OutOfMemory, Seq};
 use std::alloc::Global;
 
 /// Appends the coefficient, unless it is 0.
-fn put(coefs: &mut Vec<Coef>, unknown: u32, by: i128) -> Result<(), OutOfMemory>
+pub fn put(coefs: &mut Vec<Coef>, unknown: u32, by: i128) -> Result<(), OutOfMemory>
     ensures { OnOk result (coefficients coefs.new.items ≡ coefficients coefs.old.items ++ put unknown by []) }
 {
     if by != 0 {
@@ -40,7 +40,7 @@ fn parts(alloc: Global, coefs: &[Coef], g: u128) -> Result<Vec<Coef>, OutOfMemor
 }
 
 /// The row that tightening leaves.
-fn tightened(alloc: Global, constant: i128, coefs: Vec<Coef>) -> Result<Row, OutOfMemory>
+pub fn tightened(alloc: Global, constant: i128, coefs: Vec<Coef>) -> Result<Row, OutOfMemory>
     ensures { IfOk result (λ r. plain_row r ≡ tight (record { constant = constant; coefs = coefficients coefs.items })) }
 {
     let g = divisor(coefs.as_slice());
@@ -57,7 +57,7 @@ fn tightened(alloc: Global, constant: i128, coefs: Vec<Coef>) -> Result<Row, Out
     })
 }
 
-fn rest(coefs: &[Coef]) -> &[Coef]
+pub fn rest(coefs: &[Coef]) -> &[Coef]
     requires { 1 ≤ length coefs.now }
     ensures { result.now ≡ drop 1 coefs.now }
 {
@@ -65,7 +65,13 @@ fn rest(coefs: &[Coef]) -> &[Coef]
 }
 
 /// p times the first coefficients and q times the second ones.
-fn merged(alloc: Global, p: i128, a: &[Coef], q: i128, b: &[Coef]) -> Result<Vec<Coef>, RowFault>
+pub fn merged(
+    alloc: Global,
+    p: i128,
+    a: &[Coef],
+    q: i128,
+    b: &[Coef],
+) -> Result<Vec<Coef>, RowFault>
     ensures ok { IfOk result (λ v. coefficients v.items ≡ merged p (coefficients a.now) q (coefficients b.now)) }
     ensures narrow { OnOk result (are_wide p (coefficients a.now) q (coefficients b.now) ≡ false) }
     ensures past { result ≡ Err RowFault.PastRange → are_wide p (coefficients a.now) q (coefficients b.now) ≡ true }
