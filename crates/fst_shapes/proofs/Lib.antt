@@ -1,0 +1,4 @@
+pub mod PlainForms
+pub mod ArgumentLemmas
+pub mod BuildingLemmas
+pub mod ShapeLemmas
