@@ -36,5 +36,8 @@ pub mod ExactTranslation
 pub mod FunctionLaws
 pub mod LawLemmas
 pub mod SizeLemmas
+pub mod TextSizes
+pub mod StarSizes
+pub mod InferSizes
 pub mod PlainForms
 pub mod TranslatingLemmas

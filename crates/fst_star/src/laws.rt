@@ -1,5 +1,6 @@
 ghost use Rattle.fst_program.specs.Plain.{plain_program};
 ghost use Rattle.fst_star.specs.Laws.{GoalsMeetPaths, ValidGoalsMakeSafe, SafeMakesGoalsValid, TransformersEqualPaths};
+ghost use Rattle.fst_star.specs.Size.{InferredAreSmall};
 
 use fst_program::Program;
 
@@ -21,4 +22,10 @@ pub fn valid_law(program: &Program)
 /// The inferred transformer demands exactly the results of the function's paths.
 pub fn paths_law(program: &Program)
     ensures { TransformersEqualPaths (plain_program program.now) }
+{}
+
+/// Where no text names a computation of its header at more than one place, what is inferred for a function has at most as many
+/// nodes as eight times the size of its body times that of the largest text.
+pub fn size_law(program: &Program)
+    ensures { InferredAreSmall (plain_program program.now) }
 {}
