@@ -38,13 +38,13 @@ module _ (P : Prog) (k : ℕ) (f : Fn) (M : Meaning) (H : Holes) (e0 : Env) (st 
   pub start-values : put_values M (start_terms P f) e0 ≡ e0
   start-values = ap (λ n. put_values M (vars_from 0 n) e0) (has-length (start P f).vars e0 st.sorts) ∙ own-values M e0
 
-  abbrev ends : Way → Tm → List Gl
+  abbrev pub ends : Way → Tm → List Gl
   ends = ensures_site P k f
 
   result-env : (w : Way) (e : Env) (t : Tm) → Extends (start P f) e0 w e → put_values M (t ∷ all_raised (count (start P f)) w (clause_terms f.effect (reverse (own_vars f)) (own_input f))) e ≡ value M t e ∷ put_values M (clause_terms f.effect (reverse (own_vars f)) (own_input f)) e0
   result-env w e t x = ap (λ l. value M t e ∷ l) (raised-put-values M (start P f) e0 w e (clause_terms f.effect (reverse (own_vars f)) (own_input f)) x)
 
-  ensures-met : (w : Way) (e : Env) (t : Tm) → Extends (start P f) e0 w e → Stands M w e → AllHold M k (start P f) e0 (ends w t) → Meets (value M t e)
+  pub ensures-met : (w : Way) (e : Env) (t : Tm) → Extends (start P f) e0 w e → Stands M w e → AllHold M k (start P f) e0 (ends w t) → Meets (value M t e)
   ensures-met w e t x s h = go f.gives h
     where
       go : (o : Option Tm) → AllHold M k (start P f) e0 (over (given o (t ∷ all_raised (count (start P f)) w (clause_terms f.effect (reverse (own_vars f)) (own_input f)))) (λ phi. goal_site k kind.Ensures f.place phi w))
@@ -66,7 +66,7 @@ module _ (P : Prog) (k : ℕ) (f : Fn) (M : Meaning) (H : Holes) (e0 : Env) (st 
   pub safe-where-goals-valid : (v : Wt) → IsClosed v → GoalsValid M (wp_walk Gl (goal_site k) v (start_terms P f) (start P f) ends) → safe M H v e0 × ((r : Val) → demands M H v e0 r → Meets r)
   safe-where-goals-valid v n h = safe-where-goals-hold v n (valid-hold M k (start P f) e0 (wp_walk Gl (goal_site k) v (start_terms P f) (start P f) ends) h)
 
-  ensures-hold : (w : Way) (t : Tm) → Behind (start P f) w → ((e : Env) → Extends (start P f) e0 w e → Stands M w e → Meets (value M t e)) → AllHold M k (start P f) e0 (ends w t)
+  pub ensures-hold : (w : Way) (t : Tm) → Behind (start P f) w → ((e : Env) → Extends (start P f) e0 w e → Stands M w e → Meets (value M t e)) → AllHold M k (start P f) e0 (ends w t)
   ensures-hold w t b h = go f.gives h
     where
       go : (o : Option Tm) → ((e : Env) → Extends (start P f) e0 w e → Stands M w e → IfGiven M o (value M t e ∷ put_values M (clause_terms f.effect (reverse (own_vars f)) (own_input f)) e0))

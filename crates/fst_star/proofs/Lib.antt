@@ -39,5 +39,6 @@ pub mod SizeLemmas
 pub mod TextSizes
 pub mod StarSizes
 pub mod InferSizes
+pub mod GoalKinds
 pub mod PlainForms
 pub mod TranslatingLemmas

@@ -1,5 +1,5 @@
 ghost use Rattle.fst_program.specs.Plain.{plain_program};
-ghost use Rattle.fst_star.specs.Laws.{GoalsMeetPaths, ValidGoalsMakeSafe, SafeMakesGoalsValid, TransformersEqualPaths};
+ghost use Rattle.fst_star.specs.Laws.{GoalsMeetPaths, GoalsTellOfEach, ValidGoalsMakeSafe, SafeMakesGoalsValid, TransformersEqualPaths};
 ghost use Rattle.fst_star.specs.Size.{InferredAreSmall};
 
 use fst_program::Program;
@@ -17,6 +17,12 @@ pub fn safe_law(program: &Program)
 /// Where a transformer is safe and its results meet the ensures, the goals that it gives are valid.
 pub fn valid_law(program: &Program)
     ensures { SafeMakesGoalsValid (plain_program program.now) }
+{}
+
+/// Environment by environment: where a transformer has no need of kind `Ensures`, it is safe exactly where the goals of other kinds
+/// hold, and its results meet the ensures exactly where those of kind `Ensures` hold.
+pub fn each_law(program: &Program)
+    ensures { GoalsTellOfEach (plain_program program.now) }
 {}
 
 /// The inferred transformer demands exactly the results of the function's paths.
