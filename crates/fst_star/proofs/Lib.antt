@@ -40,5 +40,6 @@ pub mod TextSizes
 pub mod StarSizes
 pub mod InferSizes
 pub mod GoalKinds
+pub mod TextLawLemmas
 pub mod PlainForms
 pub mod TranslatingLemmas

@@ -4,6 +4,7 @@ pub mod Walking
 pub mod Inference
 pub mod Events
 pub mod Laws
+pub mod TextLaws
 pub mod Size
 pub mod Plain
 pub mod Met

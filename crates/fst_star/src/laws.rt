@@ -1,6 +1,7 @@
 ghost use Rattle.fst_program.specs.Plain.{plain_program};
 ghost use Rattle.fst_star.specs.Laws.{GoalsMeetPaths, GoalsTellOfEach, ValidGoalsMakeSafe, SafeMakesGoalsValid, TransformersEqualPaths};
 ghost use Rattle.fst_star.specs.Size.{InferredAreSmall};
+ghost use Rattle.fst_star.specs.TextLaws.{StarIsExact, TextsFitStar};
 
 use fst_program::Program;
 
@@ -34,4 +35,14 @@ pub fn paths_law(program: &Program)
 /// nodes as eight times the size of its body times that of the largest text.
 pub fn size_law(program: &Program)
     ensures { InferredAreSmall (plain_program program.now) }
+{}
+
+/// The translation of a definition's text is safe exactly where the rules of the text say so, and demands exactly what they say.
+pub fn star_law(program: &Program)
+    ensures { StarIsExact (plain_program program.now) }
+{}
+
+/// Where the runs of a header's computations fit their transformers, the runs of a text fit its translation.
+pub fn texts_law(program: &Program)
+    ensures { TextsFitStar (plain_program program.now) }
 {}

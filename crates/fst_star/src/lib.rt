@@ -22,7 +22,9 @@ pub use bodies::Bodies;
 pub use dividing::term_needs;
 pub use function_goals::goals;
 pub use gathering::{Event, gather};
-pub use laws::{each_law, goals_law, paths_law, safe_law, size_law, valid_law};
+pub use laws::{
+    each_law, goals_law, paths_law, safe_law, size_law, star_law, texts_law, valid_law,
+};
 pub use putting::put;
 pub use raising::{raise, raise_wp};
 pub use standing::Place;
