@@ -20,15 +20,12 @@ use Rattle.fst_congruence.specs.Explained.{AreEquations, Gives}
 use Rattle.fst_congruence.proofs.HeadLemmas.{Hit, place-hit, term-of-number}
 use Rattle.fst_congruence.proofs.JoinedLemmas.{numbered-number, joined-terms}
 use Rattle.fst_congruence.proofs.NumberedLemmas.{nodes-count}
+use Rattle.fst_cases.specs.Clashes.{label_of}
 use Rattle.fst_cases.specs.Leaves.{AreApart}
 use Rattle.fst_cases.specs.Refuting.{Closes}
 
--- the label of a term: that of its number
-abbrev pub label_of : Flt → List ℕ → Tm → ℕ
-label_of f labels t = label_at labels (number_of f.terms t)
-
 -- the number that is found of a numbered term is its number
-number-found : (f : Flt) (t : Tm) → IsNumbered f t → IsNumber f.terms (number_of f.terms t) × (term_at f.terms (number_of f.terms t) ≡ t)
+pub number-found : (f : Flt) (t : Tm) → IsNumbered f t → IsNumber f.terms (number_of f.terms t) × (term_at f.terms (number_of f.terms t) ≡ t)
 number-found f t n =
     let at = numbered-number f t n in
     let p = at.1.0 in

@@ -22,3 +22,4 @@ pub mod SearchLemmas
 pub mod CitedLemmas
 pub mod RoleLemmas
 pub mod RefuteLemmas
+pub mod ApartLemmas

@@ -1,7 +1,8 @@
 //! Clashes of joined terms, and what they refute.
 
 ghost use Rattle.std.specs.Prelude.{◌≡◌, ◌↔◌, ◌≤◌, ◌+◌, true, false, length, IsTrue, IfOk};
-ghost use Rattle.fst_cases.specs.Clashes.{AreJoined, FoundUnequal, IsExplained, JoinedSides};
+ghost use Rattle.fst_cases.specs.Clashes.{AreJoined, FoundUnequal, IsClosureOf, IsExplained, JoinedSides, MayBeUnequal, MayClash, MayDiffer};
+ghost use Rattle.fst_cases.specs.Roles.{AreRoles};
 ghost use Rattle.fst_cases.specs.Verdicts.{IsOf};
 ghost use Rattle.fst_congruence.specs.Numbered.{term_at};
 ghost use Rattle.fst_terms.specs.Branches.{HasMark, differ};
@@ -11,12 +12,12 @@ ghost use Rattle.fst_terms.specs.Skeletons.{arg_of, rest_of};
 ghost use Rattle.fst_terms.specs.Terms.{Tm};
 
 use crate::closings::{count, refuted_by};
-use crate::roles::Role;
+use crate::roles::{Role, Roles};
 use crate::trail::number;
 use crate::verdict::Leaf;
 use fst_base::{OutOfMemory, Seq};
 use fst_cert::Line;
-use fst_congruence::Closure;
+use fst_congruence::{Closure, first_different};
 use fst_terms::Mark;
 use std::alloc::Global;
 
@@ -95,4 +96,63 @@ pub fn refute_different(
     let lines = closure.explain(alloc, left, right)?;
     let verdict = Line::Differ(count(lines.as_slice())?);
     refuted_by(alloc, marks, lines, Seq::new(alloc), verdict)
+}
+
+/// The refutation by two joined terms that begin with different constructors, with true and false or with two others, where there are
+/// such.
+fn refute_makers(
+    alloc: Global,
+    closure: &Closure,
+    marks: &[Mark],
+    truth: bool,
+) -> Result<Option<Leaf>, OutOfMemory>
+    ensures { (f : Flt) → IsClosureOf f marks.now closure.now → IfOk result (λ found. MayDiffer f marks.now closure.now truth found) }
+{
+    match first_different(alloc, closure, truth)? {
+        None => Ok(None),
+        Some(pair) => {
+            let leaf = refute_different(alloc, closure, marks, pair.left, pair.right)?;
+            Ok(Some(leaf))
+        }
+    }
+}
+
+/// The refutation by a false equation whose sides are joined, where there is one.
+fn refute_sides(
+    alloc: Global,
+    closure: &Closure,
+    roles: &Roles,
+    marks: &[Mark],
+) -> Result<Option<Leaf>, OutOfMemory>
+    requires { length marks.now ≤ length roles.now.atoms }
+    ensures { (f : Flt) → AreRoles f roles.now → IsClosureOf f marks.now closure.now → IfOk result (λ found. MayBeUnequal f roles.now.atoms marks.now closure.now found) }
+{
+    match first_unequal(closure, roles.atoms.as_slice(), marks) {
+        None => Ok(None),
+        Some(sides) => {
+            let leaf = refute_unequal(alloc, closure, marks, sides)?;
+            Ok(Some(leaf))
+        }
+    }
+}
+
+/// The refutation by a clash of a closure under marks of all atoms, where there is one.
+pub fn clash(
+    alloc: Global,
+    closure: &Closure,
+    roles: &Roles,
+    marks: &[Mark],
+) -> Result<Option<Leaf>, OutOfMemory>
+    requires { length marks.now ≤ length roles.now.atoms }
+    ensures { (f : Flt) → AreRoles f roles.now → IsClosureOf f marks.now closure.now → IfOk result (λ found. MayClash f marks.now closure.now found) }
+{
+    let unequal = refute_sides(alloc, closure, roles, marks)?;
+    if unequal.is_some() {
+        return Ok(unequal);
+    }
+    let truths = refute_makers(alloc, closure, marks, true)?;
+    if truths.is_some() {
+        return Ok(truths);
+    }
+    refute_makers(alloc, closure, marks, false)
 }
