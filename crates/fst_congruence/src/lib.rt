@@ -28,3 +28,5 @@ pub use equation::Equation;
 pub use laws::joined_law;
 pub use makers::{Different, first_different};
 pub use node::Node;
+pub use numbered::{number_of, places_of};
+pub use places::Places;

@@ -174,7 +174,7 @@ fn is_at(terms: &[Term], number: u32, term: &Term) -> bool
 }
 
 /// The number of a term, 0 for none: a guess that is right, and else the first one of all.
-fn number_of(terms: &[Term], places: &Places, term: &Term) -> Result<u32, OutOfMemory>
+pub fn number_of(terms: &[Term], places: &Places, term: &Term) -> Result<u32, OutOfMemory>
     requires { IsOnce (map plain_term terms.now) }
     ensures { IfOk result (λ number. number ≡ number_of (map plain_term terms.now) (plain_term term.now)) }
 {
@@ -203,7 +203,7 @@ fn numbers_of(
 }
 
 /// The places of all terms by their looks.
-fn places_of(alloc: Global, terms: &[Term]) -> Result<Places, OutOfMemory> {
+pub fn places_of(alloc: Global, terms: &[Term]) -> Result<Places, OutOfMemory> {
     let mut places = Places::new(alloc);
     for at in 0..terms.len() {
         places.put(look_of(&terms[at]), place(at)?)?;
