@@ -10,3 +10,9 @@ mod RowLemmas
 pub mod PatternLemmas
 mod CheckLemmas
 mod CoreLemmas
+pub mod WrittenLemmas
+mod ShapeLemmas
+mod GivenTextLemmas
+mod OpenLemmas
+mod CheckTextLemmas
+mod CoreTextLemmas

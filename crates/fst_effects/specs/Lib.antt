@@ -4,5 +4,7 @@ pub mod Patterns
 pub mod PatternScopes
 pub mod TextSorts
 pub mod Definitions
+pub mod WrittenSorts
 pub mod Scopes
 pub mod TermChecks
+pub mod DefinitionTexts

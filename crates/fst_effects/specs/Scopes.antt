@@ -1,5 +1,5 @@
 -- What the code holds of sorts, variables and functions.
-use Rattle.std.specs.Prelude.{ℕ, zero, suc, List, [], ◌∷◌, map, reverse, Option, None, option_map, slice_get}
+use Rattle.std.specs.Prelude.{ℕ, zero, suc, List, [], ◌∷◌, map, reverse, Option, Some, None, option_map, slice_get}
 use Rattle.std.specs.Borrow.{Bor}
 use Rattle.fst_base.specs.declared.sort.Sort.{Sort}
 use Rattle.fst_base.specs.Sorts.{Srt, plain_sort}
@@ -9,10 +9,11 @@ use Rattle.fst_effects.specs.declared.scope.Context as C
 use Rattle.fst_effects.specs.declared.callee.Callee as F
 use Rattle.fst_effects.specs.declared.callee.Place as L
 use Rattle.fst_effects.specs.declared.wanted.Parts as P
+use Rattle.fst_effects.specs.declared.wanted.Run as R
 use Rattle.fst_effects.specs.declared.wanted.Wants as W
 use Rattle.fst_effects.specs.declared.wanted.Wants.TheVariants as wants
 use Rattle.fst_effects.specs.Known.{Entry, Ctx, Callee}
-use Rattle.fst_effects.specs.TermSorts.{wants_of}
+use Rattle.fst_effects.specs.TermSorts.{visible, wants_of}
 
 -- a sort that may be there
 abbrev pub sort_at : Option (Bor Sort) → Option Srt
@@ -50,10 +51,23 @@ applied_at p = applied_in p.callees.now
 abbrev pub parts_in : P.Parts → List (Option Srt)
 parts_in p = known_sort p.first ∷ known_sort p.second ∷ []
 
+-- the sorts of a computation's arguments
+abbrev pub run_args : R.Run → List Srt
+run_args r = plain_sort r.first ∷ more r.second
+  where
+    more : Option Sort → List Srt
+    more None = []
+    more (Some s) = plain_sort s ∷ []
+
+abbrev pub run_wants : Option R.Run → List (Option Srt)
+run_wants None = []
+run_wants (Some r) = wants_of (map visible (run_args r))
+
 -- the sorts that are wanted of arguments
 abbrev pub wants_in : W.Wants → List (Option Srt)
 wants_in (wants.Parts p) = parts_in p.now
 wants_in (wants.Params es) = wants_of (map entry_of es.now)
+wants_in (wants.Run r) = run_wants (Some r.now)
 
 abbrev pub want_at : List (Option Srt) → ℕ → Option Srt
 want_at [] i = None

@@ -3,14 +3,20 @@
 
 mod building;
 mod callee;
+mod check_texts;
 mod checking;
+mod core_texts;
 mod faults;
+mod given_texts;
 mod giving;
+mod open_matches;
 mod patterns;
 mod primitives;
+mod runs;
 mod scope;
 mod sorts;
 mod wanted;
+mod written;
 
 pub use building::{core_forms, core_term, sort_or_unit};
 pub use callee::{Callee, Place, callee_of};
@@ -21,3 +27,4 @@ pub use patterns::{bind, core_con, fits, unbind};
 pub use scope::{Context, Entry};
 pub use sorts::{Known as KnownSort, as_given, copied, copy_sort, known, or_else};
 pub use wanted::{Wants, want_of};
+pub use written::{boxed_sort, noted, sort_of};

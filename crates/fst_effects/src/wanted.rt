@@ -16,11 +16,20 @@ pub struct Parts {
     pub second: Option<Box<Sort>>,
 }
 
-/// The sorts that are wanted of arguments: of a primitive's, or of a function's.
+/// A computation of a header: the sorts of its one or two arguments, and that of its results.
+#[derive(Drop)]
+pub struct Run {
+    pub first: Box<Sort>,
+    pub second: Option<Box<Sort>>,
+    pub sort: Box<Sort>,
+}
+
+/// The sorts that are wanted of arguments: of a primitive's, of a function's, or of a computation's.
 #[derive(Clone, Copy)]
 pub enum Wants<'a> {
     Parts(&'a Parts),
     Params(&'a [Entry]),
+    Run(&'a Run),
 }
 
 /// The sort of a parameter, where there is one of this number.
@@ -51,6 +60,15 @@ pub fn want_of<'a>(wants: Wants<'a>, index: usize) -> Option<&'a Sort>
             }
         }
         Wants::Params(params) => param_sort(params, index),
+        Wants::Run(run) => {
+            if index == 0 {
+                Some(run.first.get())
+            } else if index == 1 {
+                as_given(&run.second)
+            } else {
+                None
+            }
+        }
     }
 }
 
