@@ -16,3 +16,5 @@ mod GivenTextLemmas
 mod OpenLemmas
 mod CheckTextLemmas
 mod CoreTextLemmas
+mod HeaderLemmas
+mod DefinitionLemmas

@@ -8,3 +8,4 @@ pub mod WrittenSorts
 pub mod Scopes
 pub mod TermChecks
 pub mod DefinitionTexts
+pub mod Headers
