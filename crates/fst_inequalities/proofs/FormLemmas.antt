@@ -19,9 +19,8 @@ use Rattle.fst_terms.specs.Linear.{linear, constant_row, unknown_row, minus_one,
 use Rattle.fst_terms.specs.Marks.{one_more, number_by, term_number}
 use Rattle.fst_terms.specs.Rows.{Cf, Rw, IsRow, is_wide_row}
 use Rattle.fst_terms.specs.Same.{same_term}
-use Rattle.fst_inequalities.specs.declared.reading.Shape.{Shape}
 use Rattle.fst_inequalities.specs.declared.reading.Shape.TheVariants as shape
-use Rattle.fst_inequalities.specs.Forming.{IsForm, Forms, IsUnknown, IsOpaque, shape_of, sum_op}
+use Rattle.fst_inequalities.specs.Forming.{IsForm, Forms, IsUnknown, IsOpaque, Making, shape_of, sum_op}
 
 -- ---- numbers
 
@@ -256,13 +255,6 @@ pub wide-result : (f : Flt) (t : Tm) (r : Result Row RowFault) (x : RowFault) �
 unfolding Forms
 wide-result f t (Ok y) x h w = absurd h
 wide-result f t (Err y) x h w = λ q. w (sym h ∙ q)
-
--- a row that is made, or one that is wide
-pub record Making (r : Result Row RowFault) (c : Rw) : Type 0 where
-  pub ok : IfOk r (λ x. plain_row x ≡ c)
-  pub ordered : IfOk r (λ x. IsRow (plain_row x))
-  pub narrow : OnOk r (is_wide_row c ≡ false)
-  pub past : r ≡ Err fault.PastRange → is_wide_row c ≡ true
 
 pub made-form : (f : Flt) (t : Tm) (r : Result Row RowFault) (c : Rw) → Making r c → ((x : Rw) → x ≡ c → IsRow x → is_wide_row c ≡ false → IsForm f t x) → (is_wide_row c ≡ true → is_wide_term (term_number f) t ≡ true) → Forms f t r
 unfolding Forms

@@ -1,3 +1,4 @@
 pub mod FormLemmas
 pub mod PlainForms
 pub mod WeightLemmas
+pub mod InequalityLemmas

@@ -1,5 +1,5 @@
 -- Linear forms of terms as code finds them.
-use Rattle.std.specs.Prelude.{◌≡◌, Bool, true, false, Result, MatchResult}
+use Rattle.std.specs.Prelude.{◌≡◌, Bool, true, false, Result, Err, IfOk, OnOk, MatchResult}
 use Rattle.fst_base.specs.declared.op.Op.{Op}
 use Rattle.fst_base.specs.declared.op.Op.TheVariants as op
 use Rattle.fst_terms.specs.Terms.{Tm}
@@ -31,6 +31,13 @@ IsUnknown f t r = MatchResult r (λ row. plain_row row ≡ unknown_row (term_num
 -- the term isn't read through
 abbrev pub IsOpaque : Flt → Tm → Type 0
 IsOpaque f t = (linear (term_number f) t ≡ unknown_row (term_number f t)) × (is_wide_term (term_number f) t ≡ is_wide_row (linear (term_number f) t))
+
+-- a row that is made; where a number is past 128 bits, the row is wide
+pub record Making (r : Result Row RowFault) (c : Rw) : Type 0 where
+  pub ok : IfOk r (λ x. plain_row x ≡ c)
+  pub ordered : IfOk r (λ x. IsRow (plain_row x))
+  pub narrow : OnOk r (is_wide_row c ≡ false)
+  pub past : r ≡ Err fault.PastRange → is_wide_row c ≡ true
 
 -- how a primitive of two arguments is read
 abbrev pub shape_of : Op → Shape
