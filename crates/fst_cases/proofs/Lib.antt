@@ -23,3 +23,6 @@ pub mod CitedLemmas
 pub mod RoleLemmas
 pub mod RefuteLemmas
 pub mod ApartLemmas
+pub mod MadeLemmas
+pub mod ValueLemmas
+pub mod AlwaysLemmas

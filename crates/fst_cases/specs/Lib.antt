@@ -13,3 +13,6 @@ pub mod Verdicts
 pub mod Cited
 pub mod Roles
 pub mod Clashes
+pub mod Making
+pub mod Reading
+pub mod Always

@@ -19,7 +19,7 @@ pub enum Want {
 }
 
 /// Nothing is read of so many atoms.
-fn nothing(alloc: Global, count: usize) -> Result<Vec<Want>, OutOfMemory>
+pub fn nothing(alloc: Global, count: usize) -> Result<Vec<Want>, OutOfMemory>
     ensures { IfOk result (λ wants. length wants.items ≡ count) }
 {
     let mut wants = Vec::new(alloc);
@@ -30,7 +30,7 @@ fn nothing(alloc: Global, count: usize) -> Result<Vec<Want>, OutOfMemory>
 }
 
 /// The mark of the atom is read, or its truth.
-fn note(wants: &mut [Want], atom: u32, whole: bool)
+pub fn note(wants: &mut [Want], atom: u32, whole: bool)
     ensures kept { (b : ℕ) → rank_of (want_at wants.old b) ≤ rank_of (want_at wants.new b) }
     ensures wanted { rank_of (wanted_by whole) ≤ rank_of (want_at wants.new atom) }
 {
@@ -87,7 +87,7 @@ fn entry(wants: &[Want], marks: &[Mark], at: usize) -> Result<Option<Known>, Out
 }
 
 /// The marks that are read, by falling atoms.
-fn core_of(alloc: Global, wants: &[Want], marks: &[Mark]) -> Result<Seq<Known>, OutOfMemory>
+pub fn core_of(alloc: Global, wants: &[Want], marks: &[Mark]) -> Result<Seq<Known>, OutOfMemory>
     requires { length wants.now ≡ length marks.now }
     ensures { IfOk result (λ core. core ≡ core_list wants.now marks.now (length marks.now)) }
 {
