@@ -1,8 +1,8 @@
 //! Formulas that are made, with place 0 throughout.
 
-ghost use Rattle.std.specs.Prelude.{◌≡◌, ◌∷◌, [], Ok, IfOk};
+ghost use Rattle.std.specs.Prelude.{◌≡◌, ◌∷◌, [], map, Ok, IfOk};
 ghost use Rattle.fst_terms.specs.declared.term.Term.{Term};
-ghost use Rattle.fst_terms.specs.Formulas.{at_most, both, either, equation, less, nought};
+ghost use Rattle.fst_terms.specs.Formulas.{at_most, both, either, equation, joined, less, nought};
 ghost use Rattle.fst_terms.specs.Terms.{plain_term};
 
 use fst_base::{Box, Op, OutOfMemory, Pos, Seq, Sort, boxes, pair, two};
@@ -77,4 +77,25 @@ pub fn disjunction(
     let (first, second) = pair(first, second)?;
     let (first, second) = boxes(alloc, first, second)?;
     Ok(Term::If(first, Box::new(alloc, Term::Bool(true))?, second))
+}
+
+/// The formulas joined by `&&` from the right, and `true` where there is none.
+#[tactic(auto, using(fst_terms::proofs::PlainLemmas::plain_variants))]
+pub fn joined(alloc: Global, formulas: &[Formula]) -> Result<Formula, OutOfMemory>
+    ensures { IfOk result (λ made. plain_term made ≡ joined (map plain_term formulas.now)) }
+{
+    match formulas.split_first() {
+        Some((first, rest)) => joined_from(alloc, first, rest),
+        None => Ok(Term::Bool(true)),
+    }
+}
+
+/// A formula and those that follow it, joined.
+fn joined_from(alloc: Global, first: &Formula, rest: &[Formula]) -> Result<Formula, OutOfMemory>
+    ensures { IfOk result (λ made. plain_term made ≡ joined (plain_term first.now ∷ map plain_term rest.now)) }
+{
+    match rest.split_first() {
+        Some((next, more)) => conjunction(alloc, first.copy(alloc), joined_from(alloc, next, more)),
+        None => first.copy(alloc),
+    }
 }

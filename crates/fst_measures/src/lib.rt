@@ -1,7 +1,8 @@
-//! The formula that says that measures decrease.
+//! Formulas that are joined, and the one that says that measures decrease.
 #![tactic(auto)]
 
 mod formulas;
 mod measures;
 
+pub use formulas::joined;
 pub use measures::decrease;

@@ -19,7 +19,8 @@ use Rattle.fst_star.specs.declared.wp.Which.{Which}
 use Rattle.fst_star.specs.declared.wp.Wp.{Wp}
 use Rattle.fst_star.specs.declared.wp.Wp.TheVariants as V
 use Rattle.fst_star.specs.Events.{Event as Met, at_end, at_site, event_site, event_end}
-use Rattle.fst_star.specs.Plain.{terms_for, plain_wp, plain_ways}
+use Rattle.fst_scopes.specs.Scopes.{terms_for}
+use Rattle.fst_star.specs.Plain.{plain_wp, plain_ways}
 use Rattle.fst_star.specs.Met.{plain_trail, plain_event, met_events, met_needs, met_on_ways, after_ends}
 use Rattle.fst_star.specs.Transformers.{Wt, Wts, w_none, w_way}
 use Rattle.fst_star.specs.Walking.{by_look, decided, wp_walk, ways_walk}

@@ -41,5 +41,5 @@ pub mod StarSizes
 pub mod InferSizes
 pub mod GoalKinds
 pub mod TextLawLemmas
-pub mod PlainForms
 pub mod TranslatingLemmas
+pub mod InferringLemmas

@@ -16,7 +16,7 @@ use Rattle.fst_program.specs.declared.fun.Program.{Program}
 use Rattle.fst_program.specs.Plain.{plain_effect, plain_fun, plain_param, plain_program}
 use Rattle.fst_program.specs.Texts.{Fn, Prm, Prog, if_there, is_user}
 use Rattle.fst_star.specs.Met.{plain_trail}
-use Rattle.fst_star.specs.Plain.{terms_for}
+use Rattle.fst_scopes.specs.Scopes.{terms_for}
 use Rattle.fst_star.specs.Starting.{param_var, start_vars}
 use Rattle.fst_star.proofs.Needs.{append-again, append-none}
 use Rattle.fst_star.proofs.TrailLemmas.{map-end, stand-made}
@@ -67,7 +67,7 @@ vars-none P f e vars params v p x n =
 at_way : List Vr → List Tm → List Choice → Way
 at_way vars hyps choices = record { vars = vars; hyps = hyps; choices = choices }
 
-suppose-all : (phis : List Tm) (vars : List Vr) (hyps : List Tm) (choices : List Choice)
+pub suppose-all : (phis : List Tm) (vars : List Vr) (hyps : List Tm) (choices : List Choice)
     → suppose_all phis (record { vars = vars; hyps = hyps; choices = choices }) ≡ record { vars = vars; hyps = reverse phis ++ hyps; choices = choices }
 suppose-all [] vars hyps choices = refl
 suppose-all (phi ∷ phis) vars hyps choices =

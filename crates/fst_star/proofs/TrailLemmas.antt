@@ -11,7 +11,7 @@ use Rattle.fst_program.specs.declared.goal.Choice.{Choice}
 use Rattle.fst_program.specs.Paths.{Way as Stand, fresh}
 use Rattle.fst_star.specs.declared.trail.Trail.{Trail}
 use Rattle.fst_star.specs.Met.{plain_trail}
-use Rattle.fst_star.specs.Plain.{terms_for}
+use Rattle.fst_scopes.specs.Scopes.{terms_for}
 use Rattle.fst_star.proofs.WayLemmas.{raised-terms}
 
 abbrev at_stand : List Vr → List Tm → List Choice → Stand

@@ -1,7 +1,5 @@
 -- The translation, from the answers for its parts.
 use Rattle.std.proofs.Common.{◌≡◌, ℕ, zero, suc, ◌<◌, if◌then◌else◌, List, [], ◌∷◌, ◌++◌, map, drop, get_or, length, reverse, refl, ap, ap₂, sym, ◌∙◌, arith}
-use mathlib.Core.List.{reverse_aux}
-use Rattle.fst_base.specs.declared.sort.Sort.{Sort}
 use Rattle.fst_base.specs.Sorts.{Srt, plain_sort}
 use Rattle.fst_terms.specs.declared.term.Term.{Term}
 use Rattle.fst_terms.specs.Formulas.{negation, put, sort_of}
@@ -14,18 +12,9 @@ use Rattle.fst_program.specs.Plain.{plain_dm}
 use Rattle.fst_program.specs.Texts.{Dm, DmArms, d_ret, d_let, d_if, d_match, d_run_f, d_run_g, d_end, d_arm}
 use Rattle.fst_program.specs.declared.goal.Choice.TheVariants as choice
 use Rattle.fst_program.proofs.PlainLemmas.{plain_dm_arms}
-use Rattle.fst_star.specs.Plain.{terms_for}
-use Rattle.fst_star.specs.Sorting.{sorts_in}
+use Rattle.fst_scopes.specs.Scopes.{terms_for, sorts_in}
 use Rattle.fst_star.specs.Transformers.{Wt, w_none, w_way, w_then, w_ways}
 use Rattle.fst_star.specs.Translation.{con_ways, condition, dm_arms_sort, dm_sort, star, star_arm, term_needs}
-use Rattle.fst_star.proofs.WayLemmas.{map-twice}
-
-turned : {A B : Type 0} (g : A → B) (xs ys : List A) → map g (reverse_aux xs ys) ≡ reverse_aux (map g xs) (map g ys)
-turned g [] ys = refl
-turned g (x ∷ xs) ys = turned g xs (x ∷ ys)
-
-pub sorts-turned : (Ss : List Srt) (made : List Sort) (ts : List Term) → map plain_sort made ≡ map (λ t. sort_of Ss (plain_term t)) ts → sorts_in made ≡ map (sort_of Ss) (terms_for ts)
-sorts-turned Ss made ts e = ap reverse (e ∙ map-twice plain_term (sort_of Ss) ts) ∙ sym (turned (sort_of Ss) (map plain_term ts) [])
 
 -- ---- arms
 

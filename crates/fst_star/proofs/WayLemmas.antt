@@ -7,7 +7,8 @@ use Rattle.fst_star.specs.declared.wp.Wp.{Wp}
 use Rattle.fst_star.specs.Transformers.{Wts, w_none, w_way, wshift, ws_shift}
 use Rattle.fst_star.specs.Translating.{joined_ways}
 use Rattle.fst_star.proofs.Calls.{map-reverse}
-use Rattle.fst_star.specs.Plain.{plain_wp, plain_ways, terms_for}
+use Rattle.fst_star.specs.Plain.{plain_wp, plain_ways}
+use Rattle.fst_scopes.specs.Scopes.{terms_for}
 
 pub map-twice : {A B C : Type 0} (f : A → B) (g : B → C) (xs : List A) → map (λ x. g (f x)) xs ≡ map g (map f xs)
 map-twice f g [] = refl

@@ -10,5 +10,5 @@ pub mod Plain
 pub mod Met
 pub mod Starting
 pub mod Divided
-pub mod Sorting
 pub mod Translating
+pub mod Inferring

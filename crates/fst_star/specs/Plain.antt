@@ -36,7 +36,3 @@ plain_wp = fold-Wp Wt wp_layer
 abbrev pub plain_ways : List (Way Wp) → Wts
 plain_ways [] = w_none
 plain_ways (way ∷ more) = w_way way.choice (plain_term way.given) (plain_wp way.rest) (plain_ways more)
-
--- terms for variables, the last variable's first
-abbrev pub terms_for : List Term → List Tm
-terms_for us = reverse (map plain_term us)

@@ -1,5 +1,5 @@
 -- The translation as its code has it: scopes and terms are lists with the last variable last.
-use Rattle.std.specs.Prelude.{ℕ, List, [], Option, Some, None}
+use Rattle.std.specs.Prelude.{ℕ, List, [], ◌∷◌, Option, Some, None}
 use Rattle.fst_base.specs.Sorts.{Srt, plain_sort}
 use Rattle.fst_terms.specs.Terms.{Tm}
 use Rattle.fst_program.specs.declared.comp.Con.{Con}
@@ -24,6 +24,11 @@ arm_in b Ss us n arms c parts = star_arm (plain_sort b.first_sort) (plain_sort b
 abbrev pub family_of : Option Con → List Con
 family_of None = []
 family_of (Some c) = family c
+
+-- a first, and a second where there is one
+abbrev pub one_or_two : Con → Option Con → List Con
+one_or_two c None = c ∷ []
+one_or_two c (Some d) = c ∷ d ∷ []
 
 -- ways after ways
 abbrev pub joined_ways : Wts → Wts → Wts

@@ -2,8 +2,10 @@
 ghost use Rattle.std.specs.Prelude.{◌≡◌, ◌∷◌, [], ◌++◌, true, map, get_or, Ok, IfOk, OnOk};
 ghost use Rattle.fst_program.specs.Paths.{all_divisions, divisions, is_division};
 ghost use Rattle.fst_star.specs.Divided.{nonzero, own_division, plain_division};
-ghost use Rattle.fst_star.specs.Plain.{plain_wp, terms_for};
+ghost use Rattle.fst_star.specs.Plain.{plain_wp};
+ghost use Rattle.fst_scopes.specs.Scopes.{terms_for};
 ghost use Rattle.fst_star.specs.Translation.{divisor_needs, term_needs};
+ghost use Rattle.fst_star.specs.declared.wp.Wp.{Wp};
 ghost use Rattle.fst_terms.specs.declared.term.Term.{Term};
 ghost use Rattle.fst_terms.specs.Formulas.{equation, negation, put};
 ghost use Rattle.fst_terms.specs.Terms.{plain_term, plain_terms, t_bool, t_if, t_unit};
@@ -224,4 +226,13 @@ pub fn term_needs(alloc: Global, term: &Term, terms: &[Term], rest: Box<Wp>) -> 
     let mut found = Seq::new(alloc);
     add_divisions(alloc, term, &[], &mut found)?;
     divisor_needs(alloc, found.as_slice(), terms, rest)
+}
+
+/// The needs of the divisions of these terms before the rest.
+pub(crate) fn args_needs(alloc: Global, args: &[Term], terms: &[Term], rest: Node) -> Node
+    ensures { IfOk result (λ made. (w : Wp) × ((rest ≡ Ok w) × (plain_wp made ≡ divisor_needs (all_divisions [] (plain_terms args.now)) (terms_for terms.now) (plain_wp w)))) }
+{
+    let mut found = Seq::new(alloc);
+    add_all(alloc, args, &[], &mut found)?;
+    divisor_needs(alloc, found.as_slice(), terms, rest?)
 }

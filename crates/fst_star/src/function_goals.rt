@@ -5,7 +5,8 @@ ghost use Rattle.fst_program.specs.Plain.{plain_fun, plain_program};
 ghost use Rattle.fst_program.specs.Texts.{fun_at, if_there};
 ghost use Rattle.fst_star.specs.Laws.{goals_by};
 ghost use Rattle.fst_star.specs.Met.{plain_event, plain_trail};
-ghost use Rattle.fst_star.specs.Plain.{plain_wp, terms_for};
+ghost use Rattle.fst_star.specs.Plain.{plain_wp};
+ghost use Rattle.fst_scopes.specs.Scopes.{terms_for};
 ghost use Rattle.fst_star.specs.Starting.{end_goals, goals_met};
 ghost use Rattle.fst_terms.specs.Terms.{plain_term};
 

@@ -3,7 +3,8 @@ ghost use Rattle.std.specs.Prelude.{◌≡◌, ◌∷◌, [], ◌++◌, map, IfO
 ghost use Rattle.fst_program.specs.Paths.{all_raised, suppose};
 ghost use Rattle.fst_star.specs.Events.{at_end, at_site};
 ghost use Rattle.fst_star.specs.Met.{Enters, after_ends, met_events, met_needs, met_on_ways, met_opened, plain_event, plain_trail};
-ghost use Rattle.fst_star.specs.Plain.{plain_ways, plain_wp, terms_for};
+ghost use Rattle.fst_star.specs.Plain.{plain_ways, plain_wp};
+ghost use Rattle.fst_scopes.specs.Scopes.{terms_for};
 ghost use Rattle.fst_terms.specs.Formulas.{put};
 ghost use Rattle.fst_terms.specs.Terms.{plain_term};
 

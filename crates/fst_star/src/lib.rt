@@ -2,16 +2,21 @@
 #![tactic(auto)]
 
 mod bodies;
+mod branching;
+mod calling;
 mod deciding;
 mod dividing;
 mod function_goals;
 mod gathering;
+mod inference;
+mod inferring;
 mod laws;
 mod making;
+mod plugging;
 mod putting;
 mod raising;
 mod selecting;
-mod sorting;
+mod spots;
 mod standing;
 mod starting;
 mod trail;
@@ -22,6 +27,7 @@ pub use bodies::Bodies;
 pub use dividing::term_needs;
 pub use function_goals::goals;
 pub use gathering::{Event, gather};
+pub use inference::infer;
 pub use laws::{
     each_law, goals_law, paths_law, safe_law, size_law, star_law, texts_law, valid_law,
 };

@@ -1,7 +1,7 @@
 //! Terms put in for variables.
 ghost use Rattle.std.specs.Prelude.{◌≡◌, ◌∷◌, map, get_or, IfOk, Some, option_map};
 ghost use Rattle.fst_base.specs.Sorts.{plain_sort};
-ghost use Rattle.fst_star.specs.Plain.{terms_for};
+ghost use Rattle.fst_scopes.specs.Scopes.{terms_for};
 ghost use Rattle.fst_terms.specs.Formulas.{component, make, put};
 ghost use Rattle.fst_terms.specs.Terms.{plain_term, plain_terms, shift, t_unit, t_var};
 

@@ -56,7 +56,7 @@ fn double(alloc: Global, first: Made, second: Made) -> Result<Seq<Term>, OutOfMe
 }
 
 /// The selectors of a scrutinee of this sort, in the order of the constructor's parts.
-#[tactic(auto, using(crate::proofs::PlainForms::plain_variants))]
+#[tactic(auto, using(fst_scopes::proofs::PlainForms::plain_variants))]
 pub(crate) fn selectors(
     alloc: Global,
     con: Con,
@@ -82,7 +82,7 @@ pub(crate) fn selectors(
 }
 
 /// The constructor of the selectors.
-#[tactic(auto, using(crate::proofs::PlainForms::plain_variants))]
+#[tactic(auto, using(fst_scopes::proofs::PlainForms::plain_variants))]
 fn rebuilt(alloc: Global, con: Con, sort: &Sort, term: &Term) -> Result<Term, OutOfMemory>
     ensures { IfOk result (λ made. plain_term made ≡ t_prim (op_of con) (plain_sort sort.now) (row (selectors con (plain_sort sort.now) (plain_term term.now))) 0) }
 {
@@ -91,7 +91,7 @@ fn rebuilt(alloc: Global, con: Con, sort: &Sort, term: &Term) -> Result<Term, Ou
 }
 
 /// The condition of a constructor's way, for a scrutinee of this sort.
-#[tactic(auto, using(crate::proofs::PlainForms::plain_variants))]
+#[tactic(auto, using(fst_scopes::proofs::PlainForms::plain_variants))]
 pub(crate) fn condition(
     alloc: Global,
     con: Con,

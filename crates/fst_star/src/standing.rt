@@ -1,15 +1,14 @@
 //! Where a translated text stands.
 ghost use Rattle.std.specs.Prelude.{◌≡◌, ◌∷◌, ◌++◌, suc, map, reverse, IfOk};
 ghost use Rattle.fst_base.specs.Sorts.{plain_sort};
-ghost use Rattle.fst_star.specs.Plain.{terms_for};
-ghost use Rattle.fst_star.specs.Sorting.{sorts_in};
+ghost use Rattle.fst_scopes.specs.Scopes.{terms_for, sorts_in};
 ghost use Rattle.fst_terms.specs.Terms.{plain_term, shift, t_var};
 
 use crate::putting::under;
 use crate::raising::sum;
-use crate::sorting::{copy_sorts, with_sort};
 use crate::trail::copy_terms;
 use fst_base::{OutOfMemory, Seq, Sort, pair};
+use fst_scopes::{copy_sorts, with_sort};
 use fst_terms::Term;
 use std::alloc::Global;
 
@@ -39,7 +38,11 @@ pub(crate) fn place_under(alloc: Global, place: &Place, sort: &Sort) -> Result<P
 }
 
 /// These terms and more, for the last variables.
-fn with_terms(alloc: Global, terms: &[Term], more: &[Term]) -> Result<Seq<Term>, OutOfMemory>
+pub(crate) fn with_terms(
+    alloc: Global,
+    terms: &[Term],
+    more: &[Term],
+) -> Result<Seq<Term>, OutOfMemory>
     ensures { IfOk result (λ made. made ≡ terms.now ++ more.now) }
 {
     let mut made = copy_terms(alloc, terms)?;

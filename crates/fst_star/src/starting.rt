@@ -5,7 +5,7 @@ ghost use Rattle.fst_program.specs.Paths.{clause_terms, demands_of, given, input
 ghost use Rattle.fst_program.specs.Plain.{plain_fun, plain_param, plain_program};
 ghost use Rattle.fst_program.specs.Texts.{is_user};
 ghost use Rattle.fst_star.specs.Met.{plain_trail};
-ghost use Rattle.fst_star.specs.Plain.{terms_for};
+ghost use Rattle.fst_scopes.specs.Scopes.{terms_for};
 ghost use Rattle.fst_star.specs.Starting.{own_terms, param_var, start_vars};
 ghost use Rattle.fst_terms.specs.Formulas.{vars_from};
 ghost use Rattle.fst_terms.specs.Meaning.{plain_var};
@@ -46,7 +46,7 @@ fn first_own(effect: Effect) -> u32
 }
 
 /// The variables of a function's parameters.
-fn own_vars(alloc: Global, fun: &Fun) -> Result<Seq<Term>, OutOfMemory>
+pub(crate) fn own_vars(alloc: Global, fun: &Fun) -> Result<Seq<Term>, OutOfMemory>
     ensures { IfOk result (λ made. terms_for made ≡ own_vars (plain_fun fun.now)) }
 {
     let count = count_of(fun.params.len())?;
@@ -55,7 +55,7 @@ fn own_vars(alloc: Global, fun: &Fun) -> Result<Seq<Term>, OutOfMemory>
 
 /// The variable of a function's input.
 #[tactic(auto, using(fst_terms::proofs::PlainLemmas::plain_variants))]
-fn own_input(alloc: Global, fun: &Fun) -> Result<Box<Term>, OutOfMemory>
+pub(crate) fn own_input(alloc: Global, fun: &Fun) -> Result<Box<Term>, OutOfMemory>
     ensures { IfOk result (λ made. plain_term made ≡ own_input (plain_fun fun.now)) }
 {
     if is_user(fun.effect) {
@@ -83,7 +83,7 @@ pub(crate) fn clause_terms(
 }
 
 /// Adds the clause with these terms for its variables, where there is one.
-fn add_given(
+pub(crate) fn add_given(
     alloc: Global,
     clause: &Option<Formula>,
     terms: &[Term],
@@ -161,7 +161,11 @@ fn with_input(alloc: Global, vars: Seq<Var>, sort: &Sort) -> Result<Seq<Var>, Ou
 }
 
 /// The variables of a function: its parameters, then its input.
-fn start_vars(alloc: Global, program: &Program, fun: &Fun) -> Result<Seq<Var>, OutOfMemory>
+pub(crate) fn start_vars(
+    alloc: Global,
+    program: &Program,
+    fun: &Fun,
+) -> Result<Seq<Var>, OutOfMemory>
     ensures { IfOk result (λ made. map plain_var made ≡ start_vars (plain_program program.now) (plain_fun fun.now)) }
 {
     let vars = param_vars(alloc, fun.params.as_slice())?;

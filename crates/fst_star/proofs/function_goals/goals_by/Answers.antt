@@ -5,7 +5,8 @@ use Rattle.fst_terms.proofs.PrepareLemmas.{given}
 use Rattle.fst_program.specs.Paths.{count}
 use Rattle.fst_program.specs.Plain.{plain_fun, plain_program}
 use Rattle.fst_star.specs.Met.{met_events, plain_event, plain_trail}
-use Rattle.fst_star.specs.Plain.{plain_wp, terms_for}
+use Rattle.fst_star.specs.Plain.{plain_wp}
+use Rattle.fst_scopes.specs.Scopes.{terms_for}
 use Rattle.fst_star.proofs.EventLemmas.{count-plain}
 use Rattle.fst_star.proofs.GoalLemmas.{met-all}
 use Rattle.fst_star.proofs.function_goals.goals_by.Goals as goal

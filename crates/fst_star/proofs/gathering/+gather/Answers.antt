@@ -5,7 +5,8 @@ use Rattle.fst_program.specs.Paths.{fresh}
 use Rattle.fst_terms.specs.Formulas.{put}
 use Rattle.fst_terms.specs.Terms.{plain_term}
 use Rattle.fst_star.specs.Met.{Enters, after_ends, met_events, plain_event, plain_trail}
-use Rattle.fst_star.specs.Plain.{plain_wp, terms_for}
+use Rattle.fst_star.specs.Plain.{plain_wp}
+use Rattle.fst_scopes.specs.Scopes.{terms_for}
 use Rattle.fst_star.proofs.EventLemmas.{met-Post, met-Need, met-Given, met-Fresh, met-Ways, met-Hole, met-HoleTail, met-Then, ways-init, after-init, after-more, after-site, after-end, way-same, way-none, way-inner, count-plain}
 use Rattle.fst_terms.proofs.PrepareLemmas.{given}
 use Rattle.fst_star.specs.declared.gathering.Entry.{Entry}

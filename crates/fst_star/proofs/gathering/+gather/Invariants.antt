@@ -1,6 +1,7 @@
 use Rattle.std.proofs.Common.{◌≡◌, ◌++◌, map, take}
 use Rattle.fst_star.specs.Met.{after_ends, met_on_ways, plain_event, plain_trail}
-use Rattle.fst_star.specs.Plain.{plain_ways, plain_wp, terms_for}
+use Rattle.fst_star.specs.Plain.{plain_ways, plain_wp}
+use Rattle.fst_scopes.specs.Scopes.{terms_for}
 use Rattle.fst_star.proofs.gathering.+gather.Given as goal
 
 abbrev pub invariant-gather_ways-loop-way : goal.invariant-gather_ways-loop-way

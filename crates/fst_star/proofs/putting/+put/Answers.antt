@@ -1,6 +1,6 @@
 use Rattle.std.proofs.lemmas.Result.{IfOk-weaker}
 use Rattle.fst_terms.proofs.PrepareLemmas.{given}
-use Rattle.fst_star.specs.Plain.{terms_for}
+use Rattle.fst_scopes.specs.Scopes.{terms_for}
 use Rattle.fst_star.proofs.PutParts.{put-Prim-by, put-App-by}
 use Rattle.fst_star.proofs.putting.+put.Goals as goal
 

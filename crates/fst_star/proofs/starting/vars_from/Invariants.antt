@@ -1,6 +1,6 @@
 use Rattle.std.proofs.Common.{◌≡◌, ◌-◌}
 use Rattle.fst_terms.specs.Formulas.{vars_from}
-use Rattle.fst_star.specs.Plain.{terms_for}
+use Rattle.fst_scopes.specs.Scopes.{terms_for}
 use Rattle.fst_star.proofs.starting.vars_from.Given as goal
 
 abbrev pub invariant-loop-at : goal.invariant-loop-at

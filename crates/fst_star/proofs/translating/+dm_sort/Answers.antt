@@ -1,7 +1,7 @@
 use Rattle.std.proofs.Common.{◌∙◌, ap}
 use Rattle.std.proofs.lemmas.Result.{IfOk-weaker}
 use Rattle.fst_base.specs.Sorts.{plain_sort}
-use Rattle.fst_star.specs.Sorting.{sorts_in}
+use Rattle.fst_scopes.specs.Scopes.{sorts_in}
 use Rattle.fst_star.proofs.TranslatingLemmas.{sorted-arm}
 use Rattle.fst_star.proofs.translating.+dm_sort.Goals as goal
 

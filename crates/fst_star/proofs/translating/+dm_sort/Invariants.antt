@@ -1,7 +1,7 @@
 use Rattle.std.proofs.Common.{◌≡◌, drop}
 use Rattle.fst_base.specs.Sorts.{plain_sort}
 use Rattle.fst_program.proofs.PlainLemmas.{plain_dm_arms}
-use Rattle.fst_star.specs.Sorting.{sorts_in}
+use Rattle.fst_scopes.specs.Scopes.{sorts_in}
 use Rattle.fst_star.specs.Translation.{dm_arms_sort}
 use Rattle.fst_star.proofs.translating.+dm_sort.Given as goal
 

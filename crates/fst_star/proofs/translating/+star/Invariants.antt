@@ -1,8 +1,7 @@
 use Rattle.std.proofs.Common.{◌≡◌, drop, map}
 use Rattle.fst_terms.specs.Terms.{plain_term}
 use Rattle.fst_program.proofs.PlainLemmas.{plain_dm_arms}
-use Rattle.fst_star.specs.Plain.{terms_for}
-use Rattle.fst_star.specs.Sorting.{sorts_in}
+use Rattle.fst_scopes.specs.Scopes.{terms_for, sorts_in}
 use Rattle.fst_star.specs.Translating.{arm_in}
 use Rattle.fst_star.proofs.translating.+star.Given as goal
 

@@ -2,8 +2,8 @@ use Rattle.std.proofs.Common.{[], ◌∙◌}
 use Rattle.std.proofs.lemmas.Result.{IfOk-weaker}
 use Rattle.fst_base.specs.Sorts.{plain_sort}
 use Rattle.fst_program.specs.Plain.{plain_dm}
-use Rattle.fst_star.specs.Plain.{plain_wp, terms_for}
-use Rattle.fst_star.specs.Sorting.{sorts_in}
+use Rattle.fst_star.specs.Plain.{plain_wp}
+use Rattle.fst_scopes.specs.Scopes.{terms_for, sorts_in}
 use Rattle.fst_star.proofs.TranslatingLemmas.{olds-unread}
 use Rattle.fst_star.proofs.translating.star.Goals as goal
 

@@ -1,7 +1,0 @@
-use Rattle.std.proofs.lemmas.Result.{IfOk-weaker}
-use Rattle.fst_star.specs.Sorting.{sorts_in}
-use Rattle.fst_star.proofs.TranslatingLemmas.{sorts-turned}
-use Rattle.fst_star.proofs.sorting.sorts_of.Goals as goal
-
-pub returns : goal.returns
-returns c = IfOk-weaker c.each_sort.result _ _ (λ made e. sorts-turned (sorts_in c.args.sorts.now) made c.args.terms.now e) c.each_sort.ensures
