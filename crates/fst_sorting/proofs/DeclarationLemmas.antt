@@ -120,7 +120,7 @@ module _ (all : List (WDecl Word)) where
       let d = get-within (effects_of rs) n within in
       there-is (K.effects n) (λ e. ⊤) (effect_sorts d.0) (ap (option_map effect_sorts) d.1) tt
 
-  effect-within : (b : Before) (w : Word) → listed (named_effect G b w).broken ≡ [] → (named_effect G b w).reference.index < length (map effect_sorts (effects_of rs))
+  pub effect-within : (b : Before) (w : Word) → listed (named_effect G b w).broken ≡ [] → (named_effect G b w).reference.index < length (map effect_sorts (effects_of rs))
   effect-within b w u = go (number_of w.text G.effects) refl u
     where
       go : (o : Option ℕ) → number_of w.text G.effects ≡ o → listed (effect_use G b w o).broken ≡ [] → (effect_use G b w o).reference.index < length (map effect_sorts (effects_of rs))

@@ -16,3 +16,12 @@ mod FullLemmas
 mod DisciplineLemmas
 mod FrontLemmas
 mod WorkedFront
+mod WrittenLemmas
+mod RefusalLemmas
+mod GivenLemmas
+mod PartPlaces
+mod ArgumentLemmas
+mod CheckLemmas
+mod CoreLemmas
+mod LiftRefusals
+pub mod PhaseLemmas

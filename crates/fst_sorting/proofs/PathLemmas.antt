@@ -43,7 +43,7 @@ pure-is None h = absurd h
 pure-is (Some d) h = ap is_pure h
 
 module _ (Es : List EffDef) where
-  not-second : (ls : List LftDef) (l : LftDef) → AreWithin (length Es) ls → IsWithin (length Es) l → Sure ls → second_path Es ls l ≡ false → SecondPath ls l → ⊥
+  pub not-second : (ls : List LftDef) (l : LftDef) → AreWithin (length Es) ls → IsWithin (length Es) l → Sure ls → second_path Es ls l ≡ false → SecondPath ls l → ⊥
   not-second ls l r w s e p =
       let low = start-in (length Es) ls r p.lower l.from p.to_lift w.0 p.begins in
       let up = end-in (length Es) ls r l.«to» p.upper p.from_lift w.1 p.ends in
@@ -53,7 +53,7 @@ module _ (Es : List EffDef) where
       let four = after-true (is_there (path ls l.«to» p.upper)) _ (ap is_there (s l.«to» p.upper p.from_lift p.ends)) three in
       let five : is_there (path ls p.lower p.upper) ≡ true = ap is_there (s p.lower p.upper p.already p.there) in cc
 
-  not-lowered : (l : LftDef) → is_div (base_at (slice_get Es l.from)) && is_pure (base_at (slice_get Es l.«to»)) ≡ false → Lowers Es l → ⊥
+  pub not-lowered : (l : LftDef) → is_div (base_at (slice_get Es l.from)) && is_pure (base_at (slice_get Es l.«to»)) ≡ false → Lowers Es l → ⊥
   not-lowered l e h =
       let two = after-true (is_div (base_at (slice_get Es l.from))) _ (div-is (slice_get Es l.from) h.0) e in
       let three = pure-is (slice_get Es l.«to») h.1 in cc
@@ -75,7 +75,7 @@ module _ (Es : List EffDef) where
         keep-from (ls ++ l ∷ []) more ats m (within-more ls l r q.0) q.1 (none-right (broken_by Es ls l at) _ b) (sure-more ls l one s),
       )
 
-  kept-sure : (ls more : List LftDef) → KeepFrom Es ls more → Sure ls → Sure (ls ++ more)
+  pub kept-sure : (ls more : List LftDef) → KeepFrom Es ls more → Sure ls → Sure (ls ++ more)
   kept-sure ls [] k s = subst Sure (sym (append-nil ls)) s
   kept-sure ls (l ∷ more) k s = subst Sure (append_assoc ls (l ∷ []) more) (kept-sure (ls ++ l ∷ []) more k.1 (sure-more ls l k.0.one_path s))
 
