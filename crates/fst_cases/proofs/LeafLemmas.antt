@@ -17,7 +17,7 @@ use Rattle.fst_terms.specs.Rows.{Rw, SolvesOver}
 use Rattle.fst_terms.specs.Elimination.{MeetsWide}
 use Rattle.fst_terms.specs.Linear.{Ineq, row_of, is_wide_ineq}
 use Rattle.fst_terms.specs.Marks.{Marking, marks_of, at_number, term_number}
-use Rattle.fst_terms.specs.Branches.{IsNumbered, Clash, Given, AreRows, Contradictory, IsLeft}
+use Rattle.fst_terms.specs.Branches.{IsNumbered, Clash, Given, AreRows, Contradictory, IsLeft, IsOpen, IsTooWide}
 use Rattle.fst_terms.specs.Solutions.{Solvable}
 use Rattle.fst_terms.specs.Sentences.{IsFlat, AnswersOpen, AnswersTooWide}
 use Rattle.fst_cases.specs.Refuting.{LeftRefuted}
@@ -75,17 +75,18 @@ module _ (m : Fms) where
 pub sides-numbered : (Applies : (k : ℕ) → List Srt → (S : Srt) → Type 0) (f : Flt) → IsFlat Applies f → (a : ℕ) (t : Tm) → at_number f.atoms a ≡ Some t → IsNumbered f (arg_of t) × IsNumbered f (rest_of t)
 sides-numbered Applies f flat = subst (λ g. (a : ℕ) (t : Tm) → at_number g.atoms a ≡ Some t → IsNumbered g (arg_of t) × IsNumbered g (rest_of t)) (sym flat.is) (made-sides flat.made)
 
-module _ (Applies : (k : ℕ) → List Srt → (S : Srt) → Type 0) (f : Flt) (flat : IsFlat Applies f) where
+module _ (f : Flt) where
   -- ---- no clash
 
-  apart-free : (look : Marking) (label : Tm → ℕ) → AreApart f look label → Clash f look → ⊥
-  apart-free look label a (inl c) = a.different c.first c.second c.first_numbered c.second_numbered c.different (a.joined c.first c.second c.first_numbered c.second_numbered c.joined)
-  apart-free look label a (inr c) =
-      let s = sides-numbered Applies f flat c.number c.atom c.has.atom in
-      a.unequal c.number c.atom c.mark c.has c.equation c.false (a.joined _ _ s.0 s.1 c.sides)
+  module _ (sides : (a : ℕ) (t : Tm) → at_number f.atoms a ≡ Some t → IsNumbered f (arg_of t) × IsNumbered f (rest_of t)) where
+    apart-free : (look : Marking) (label : Tm → ℕ) → AreApart f look label → Clash f look → ⊥
+    apart-free look label a (inl c) = a.different c.first c.second c.first_numbered c.second_numbered c.different (a.joined c.first c.second c.first_numbered c.second_numbered c.joined)
+    apart-free look label a (inr c) =
+        let s = sides c.number c.atom c.has.atom in
+        a.unequal c.number c.atom c.mark c.has c.equation c.false (a.joined _ _ s.0 s.1 c.sides)
 
-  pub leaf-left : (ms : List Mark) → IsLeaf f ms → IsLeft f ms
-  leaf-left ms l = record { marked = l.marked; formulas = l.formulas; goal = l.goal; no_clash = apart-free (marks_of ms) l.label l.apart }
+    pub leaf-left : (ms : List Mark) → IsLeaf f ms → IsLeft f ms
+    leaf-left ms l = record { marked = l.marked; formulas = l.formulas; goal = l.goal; no_clash = apart-free (marks_of ms) l.label l.apart }
 
   -- ---- no contradiction
 
@@ -115,23 +116,36 @@ module _ (Applies : (k : ℕ) → List Srt → (S : Srt) → Type 0) (f : Flt) (
     solves = λ d g. let c = each d g in contained w.scale w.values rows (row_of (term_number f) d) w.solves c.0 c.1 c.2;
   }
 
+  -- ---- what a leaf of a flat form whose atoms' sides are numbered is
+
+  module _ (sides : (a : ℕ) (t : Tm) → at_number f.atoms a ≡ Some t → IsNumbered f (arg_of t) × IsNumbered f (rest_of t)) where
+    pub leaf-open : (ms : List Mark) → IsLeaf f ms → IsSolved f (marks_of ms) → IsOpen f ms
+    leaf-open ms l s = record { left = leaf-left sides ms l; no_contradiction = solved-consistent (marks_of ms) s }
+
+    pub leaf-wide-row : (ms : List Mark) → IsLeaf f ms → (d : Ineq) → Given f (marks_of ms) d → IsTrue (is_wide_ineq (term_number f) d) → IsTooWide f ms
+    leaf-wide-row ms l d g w = record { left = leaf-left sides ms l; wide = inl (d, (g, w)) }
+
+    -- some rows of the marking are enough
+    pub leaf-wide-sum : (ms : List Mark) → IsLeaf f ms → (rows : List Rw) → AreRows f (marks_of ms) rows → MeetsWide rows → IsTooWide f ms
+    leaf-wide-sum ms l rows are w = record { left = leaf-left sides ms l; wide = inr (rows, (are, w)) }
+
+module _ (Applies : (k : ℕ) → List Srt → (S : Srt) → Type 0) (f : Flt) (flat : IsFlat Applies f) where
   -- ---- the answers
 
   pub answers-open : (ms : List Mark) → LeftRefuted f [] f.atoms ms → IsLeaf f ms → IsSolved f (marks_of ms) → AnswersOpen Applies f ms
   answers-open ms left l s = record {
-    opens = record { left = leaf-left ms l; no_contradiction = solved-consistent (marks_of ms) s };
+    opens = leaf-open f (sides-numbered Applies f flat) ms l s;
     none_before = left-refuted-before Applies f flat ms left;
   }
 
   pub answers-wide-row : (ms : List Mark) → LeftRefuted f [] f.atoms ms → IsLeaf f ms → (d : Ineq) → Given f (marks_of ms) d → IsTrue (is_wide_ineq (term_number f) d) → AnswersTooWide Applies f ms
   answers-wide-row ms left l d g w = record {
-    too_wide = record { left = leaf-left ms l; wide = inl (d, (g, w)) };
+    too_wide = leaf-wide-row f (sides-numbered Applies f flat) ms l d g w;
     none_before = left-refuted-before Applies f flat ms left;
   }
 
-  -- some rows of the marking are enough
   pub answers-wide-sum : (ms : List Mark) → LeftRefuted f [] f.atoms ms → IsLeaf f ms → (rows : List Rw) → AreRows f (marks_of ms) rows → MeetsWide rows → AnswersTooWide Applies f ms
   answers-wide-sum ms left l rows are w = record {
-    too_wide = record { left = leaf-left ms l; wide = inr (rows, (are, w)) };
+    too_wide = leaf-wide-sum f (sides-numbered Applies f flat) ms l rows are w;
     none_before = left-refuted-before Applies f flat ms left;
   }
