@@ -1,3 +1,3 @@
 pub mod PathTables
-mod TableLemmas
+pub mod TableLemmas
 mod LatticeLemmas

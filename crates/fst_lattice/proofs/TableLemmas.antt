@@ -10,7 +10,7 @@ use Rattle.fst_lattice.proofs.PathTables.{Sure, more-lifts, start-in, end-in}
 
 -- ---- lists of values
 
-tabled-length : {A : Type 0} (f : ℕ → A) (n : ℕ) → length (tabled f n) ≡ n
+pub tabled-length : {A : Type 0} (f : ℕ → A) (n : ℕ) → length (tabled f n) ≡ n
 tabled-length f zero = refl
 tabled-length f (suc n) = append-length (tabled f n) (f n) ∙ ap suc (tabled-length f n)
   where

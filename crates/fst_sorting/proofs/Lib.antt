@@ -25,3 +25,11 @@ mod CheckLemmas
 mod CoreLemmas
 mod LiftRefusals
 pub mod PhaseLemmas
+mod MapLemmas
+mod RouteLemmas
+mod ListedLemmas
+mod CalleeLemmas
+mod MeasureLemmas
+mod HeadLemmas
+mod FunLemmas
+mod ProgramParts

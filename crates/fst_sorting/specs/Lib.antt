@@ -6,3 +6,5 @@ pub mod Functions
 pub mod Written
 pub mod Front
 pub mod Ascending
+pub mod Routes
+pub mod Listed

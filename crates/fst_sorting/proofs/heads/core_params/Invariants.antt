@@ -1,0 +1,12 @@
+use Rattle.std.proofs.Common.{◌≡◌, map, reverse, take}
+use Rattle.fst_program.specs.Plain.{plain_param}
+use Rattle.fst_effects.specs.Scopes.{scope_in}
+use Rattle.fst_sorting.specs.Listed.{entries_of, params_core}
+use Rattle.fst_sorting.specs.Sites.{known_at}
+use Rattle.fst_sorting.proofs.heads.core_params.Given as goal
+
+abbrev pub invariant-loop-param : goal.invariant-loop-param
+invariant-loop-param l = record {
+  made : map plain_param l.made ≡ params_core (known_at l.known) (take l.param-index l.params);
+  scope : scope_in l.context ≡ reverse (entries_of (take l.param-index l.params));
+}
