@@ -214,9 +214,11 @@ module _ (rs : List Run) (xs : Ctx) where
       ∙ sym (core-more S (take i arms) a W)
       ∙ ap (λ zs. core_dm_arms K xs S (T.plain_dm_arms ref_at zs) W) (ap (λ z. take i arms ++ z ∷ []) e ∙ sym (take_more arms i a h))
 
-pub ruleset matches = (plain-Match, match-core)
+pub ruleset makers = (plain-dm-Ret, plain-dm-Let, plain-dm-If, plain-Match)
 
-pub ruleset texts = (plain-sort-Bool, plain-dm-Ret, plain-dm-Let, plain-dm-If, core-Let, core-If, core-Match, core-Block, core-Run, core-Term)
+pub ruleset matches = (match-core)
+
+pub ruleset texts = (plain-sort-Bool, core-Let, core-If, core-Match, core-Block, core-Run, core-Term)
 
 pub ruleset arm_lists = (arms-none, arms-step)
 

@@ -1,8 +1,12 @@
 //! The core texts that texts of definitions are, where a sort is wanted, or none.
 
-ghost use Rattle.std.specs.Prelude.{◌≡◌, ◌∷◌, Ok, IfOk, OnOk, Option, map};
+ghost use Rattle.std.specs.Prelude.{◌≡◌, ◌∷◌, List, Ok, IfOk, OnOk, Option, map};
 ghost use Rattle.fst_base.specs.declared.sort.Sort.{Sort};
+ghost use Rattle.fst_program.specs.declared.comp.Arm.{Arm};
+ghost use Rattle.fst_program.specs.declared.definition.DmTerm.{DmTerm};
 ghost use Rattle.fst_program.specs.Plain.{plain_dm};
+ghost use Rattle.fst_program.specs.Texts.{d_if, d_let, d_match, d_ret};
+ghost use Rattle.fst_terms.specs.declared.term.Term.{Term};
 ghost use Rattle.fst_terms.specs.Terms.{plain_term};
 ghost use Rattle.fst_base.specs.Sorts.{plain_sort};
 ghost use Rattle.fst_effects.specs.DefinitionTexts.{arg_core, dm_arms_core, dm_core, dm_match_core, made_arms, run_core, run_in};
@@ -37,6 +41,46 @@ fn made(alloc: Global, text: DmTerm) -> Made
     ensures { IfOk result (λ t. t ≡ text) }
 {
     boxed(alloc, Ok(text))
+}
+
+/// A term as a text.
+#[tactic(auto, using(crate::proofs::CoreTextLemmas::makers))]
+fn made_ret(alloc: Global, term: Result<Term, OutOfMemory>) -> Made
+    ensures { IfOk result (λ t. (f : Term) × ((term ≡ Ok f) × (plain_dm t ≡ d_ret (plain_term f)))) }
+{
+    let term = term?;
+    made(alloc, DmTerm::Ret(term))
+}
+
+/// A let of these.
+#[tactic(auto, using(crate::proofs::CoreTextLemmas::makers))]
+fn made_let(alloc: Global, word: &Word, bound: Made, rest: Made) -> Made
+    ensures { IfOk result (λ t. (c : DmTerm) × ((d : DmTerm) × ((bound ≡ Ok c) × (rest ≡ Ok d) × (plain_dm t ≡ d_let word.now.text (plain_dm c) (plain_dm d))))) }
+{
+    let (name, (bound, rest)) = pair(word.text.copy(alloc), pair(bound, rest))?;
+    made(alloc, DmTerm::Let(name, bound, rest))
+}
+
+/// An `if` of these.
+#[tactic(auto, using(crate::proofs::CoreTextLemmas::makers))]
+fn made_if(alloc: Global, test: Result<Term, OutOfMemory>, left: Made, right: Made) -> Made
+    ensures { IfOk result (λ t. (f : Term) × ((c : DmTerm) × ((d : DmTerm) × ((test ≡ Ok f) × (left ≡ Ok c) × (right ≡ Ok d) × (plain_dm t ≡ d_if (plain_term f) (plain_dm c) (plain_dm d)))))) }
+{
+    let (test, (left, right)) = pair(test, pair(left, right))?;
+    made(alloc, DmTerm::If(test, left, right))
+}
+
+/// A match of these.
+#[tactic(auto, using(crate::proofs::CoreTextLemmas::makers))]
+fn made_match(
+    alloc: Global,
+    form: Result<Term, OutOfMemory>,
+    arms: Result<Seq<Arm<DmTerm>>, OutOfMemory>,
+) -> Made
+    ensures { IfOk result (λ t. (f : Term) × ((bs : List (Arm DmTerm)) × ((form ≡ Ok f) × (arms ≡ Ok bs) × (plain_dm t ≡ d_match (plain_term f) (made_arms bs))))) }
+{
+    let (form, arms) = pair(form, arms)?;
+    made(alloc, DmTerm::Match(form, arms))
 }
 
 /// The names of a pattern or a header.
@@ -116,18 +160,15 @@ pub fn core_dm(
             let sort = given_bound(alloc, runs, note, part.get(), context);
             let bound = core_bound(alloc, runs, note, part.get(), context);
             let rest = core_under(alloc, runs, rest.get(), sort, want, context);
-            let (name, (bound, rest)) = pair(word.text.copy(alloc), pair(bound, rest))?;
-            made(alloc, DmTerm::Let(name, bound, rest))
+            made_let(alloc, word, bound, rest)
         }
         DmTree::If(test, left, right) => {
             let own = given_unless(alloc, runs, tree, want, context)?;
             let side = or_else(want, as_given(&own));
             let test = core_term(alloc, &[], test, Some(&Sort::Bool), context);
-            let test = boxed(alloc, test)?;
-            let left = core_dm(alloc, runs, left.get(), side, context)?;
-            let right = core_dm(alloc, runs, right.get(), side, context)?;
-            let text = made(alloc, DmTerm::If(test.into_inner(), left, right))?;
-            Ok(text)
+            let left = core_dm(alloc, runs, left.get(), side, context);
+            let right = core_dm(alloc, runs, right.get(), side, context);
+            made_if(alloc, test, left, right)
         }
         DmTree::Match(form, _, arms) => {
             let own = given_unless(alloc, runs, tree, want, context)?;
@@ -136,10 +177,7 @@ pub fn core_dm(
         }
         DmTree::Block(_, text) => core_dm(alloc, runs, text.get(), want, context),
         DmTree::Run(name, args) => core_run(alloc, runs, *name, args.as_slice(), context),
-        DmTree::Term(form) => {
-            let term = core_term(alloc, &[], form, want, context)?;
-            made(alloc, DmTerm::Ret(term))
-        }
+        DmTree::Term(form) => made_ret(alloc, core_term(alloc, &[], form, want, context)),
     }
 }
 
@@ -158,10 +196,9 @@ fn core_match(
     ensures scope { OnOk result (scope_in context.new ≡ scope_in context.old) }
 {
     let sort = boxed(alloc, sort_or_unit(given(alloc, &[], form, context)))?;
-    let form = boxed(alloc, core_term(alloc, &[], form, None, context))?;
-    let arms = core_arms(alloc, runs, arms, sort.get(), want, context)?;
-    let text = made(alloc, DmTerm::Match(form.into_inner(), arms))?;
-    Ok(text)
+    let form = core_term(alloc, &[], form, None, context);
+    let arms = core_arms(alloc, runs, arms, sort.get(), want, context);
+    made_match(alloc, form, arms)
 }
 
 /// The core text that is bound to a variable.
